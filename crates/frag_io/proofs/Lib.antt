@@ -1,0 +1,4 @@
+mod Calls
+mod Moved
+mod Places
+mod Pieces

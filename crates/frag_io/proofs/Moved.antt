@@ -1,0 +1,42 @@
+-- The bytes that pass in several calls are those of each call in turn.
+use Rattle.std.proofs.Common.{◌≡◌, ◌<◌, ◌≤◌, ◌+◌, ◌-◌, ◌++◌, ◌↔◌, ℕ, List, Option, Some, None, IfSome, Result, Ok, Err, IsErrAnd, length, take, drop, refl, sym, ap, ◌∙◌, subst, append_assoc, arith, length-append, length-drop}
+use Rattle.std.proofs.lemmas.List.{length-take-le, take_all}
+use Rattle.std.proofs.Math.Seq.{take-add}
+use Rattle.frag_io.specs.declared.whole.ReadWhole.{ReadWhole}
+use Rattle.frag_io.specs.declared.whole.ReadWhole.TheVariants.{TooLong}
+use Rattle.frag_io.specs.Desk.{appended, Moves}
+use Rattle.frag_io.specs.Whole.{ReadsWhole}
+
+-- two first parts of a text, one behind the other; the second is taken of all that follows the first
+pub appended-more : (told : Option (List ℕ)) (n m : ℕ) (bytes : List ℕ) → appended (appended told (take n bytes)) (take m (take (length bytes - n) (drop n bytes))) ≡ appended told (take (n + m) bytes)
+appended-more None n m bytes = refl
+appended-more (Some told) n m bytes =
+    let all : take (length bytes - n) (drop n bytes) ≡ drop n bytes = take_all _ _ (omega (arith, length-drop n bytes)) in
+    let joined : take n bytes ++ take m (take (length bytes - n) (drop n bytes)) ≡ take (n + m) bytes =
+    ap (λ (l : List ℕ). take n bytes ++ take m l) all ∙ sym (take-add n m bytes) in
+    ap (λ (l : List ℕ). Some l) (append_assoc told (take n bytes) (take m (take (length bytes - n) (drop n bytes))) ∙ ap (λ (l : List ℕ). told ++ l) joined)
+
+-- the error that an `Err` holds
+pub Err-of : {T E : Type 0} (result : Result T E) (fault : E) → IsErrAnd result (λ e. e ≡ fault) → result ≡ Err fault
+Err-of (Ok value) fault is = absurd is
+Err-of (Err e) fault is = ap (λ x. Err x) is
+
+-- A reading that ends with a read of more bytes, and not with all of the text.
+pub ReadsWhole-part : (limit n : ℕ) (told left left' : Option (List ℕ)) (so_far buffer : List ℕ) (fault : ReadWhole)
+    → IfSome told (λ text. (rest : List ℕ) × (left ≡ Some rest) × (text ≡ so_far ++ rest))
+    → Moves left left' buffer n
+    → n ≤ length buffer
+    → ((fault ≡ TooLong) ↔ (limit < length so_far + n))
+    → IfSome told (ReadsWhole limit left' (Err fault))
+ReadsWhole-part limit n None left left' so_far buffer fault had moved fits too_long = tt
+ReadsWhole-part limit n (Some text) left left' so_far buffer fault had moved fits too_long =
+    let moves : Moves (Some had.0) left' buffer n = subst (λ (told : Option (List ℕ)). Moves told left' buffer n) had.1 moved in
+    let long : length (so_far ++ take n buffer) ≡ length so_far + n = omega (arith, length-append so_far (take n buffer), length-take-le n buffer fits) in
+    record {
+      read = so_far ++ take n buffer;
+      rest = moves.0;
+      parts = had.2 ∙ ap (λ (l : List ℕ). so_far ++ l) moves.2 ∙ sym (append_assoc so_far (take n buffer) moves.0);
+      rest_is_left = moves.1;
+      whole = tt;
+      too_long = (λ is. omega (arith, long, too_long.0 cc), λ above. ap (λ (f : ReadWhole). Err f) (too_long.1 (omega (arith, long))));
+    }

@@ -1,0 +1,9 @@
+pub mod BySlot
+pub mod Count
+pub mod Desk
+pub mod Failing
+pub mod Memory
+pub mod Outlets
+pub mod Slot
+pub mod Stage
+pub mod Whole

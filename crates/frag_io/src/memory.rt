@@ -1,0 +1,264 @@
+//! A desk in memory: files by name, what was written, and calls that fail as planned.
+ghost use Rattle.std.specs.Prelude.{◌≡◌, ◌≢◌, ◌≤◌, ◌<◌, ◌↔◌, ◌⊎◌, take, ℕ, List, false, None, Some, [], ◌++◌, length, min, IfOk, OnOk, OnErr, IsTrue, IfSome, true};
+ghost use Rattle.frag_io.specs.declared.desk.Slot.{Slot};
+ghost use Rattle.frag_io.specs.Slot.{IsRead, IsWritten, SameBut, Same};
+ghost use Rattle.frag_io.specs.BySlot.{at};
+ghost use Rattle.frag_io.specs.Failing.{IsDue, CountsCall};
+ghost use Rattle.frag_io.specs.Count.{raised};
+ghost use Rattle.frag_io.specs.Stage.{bytes_under};
+
+use crate::by_slot::BySlot;
+use crate::count::Count;
+use crate::failing::Plan;
+use crate::stage::{Source, Stage, first_stage, rest};
+use crate::{CallKind, Desk, DeskFault, Failing, Slot};
+use std::alloc::{AllocError, Global};
+
+/// A desk over files in memory. It tells all its bytes.
+#[derive(Drop)]
+pub struct MemoryDesk {
+    files: Vec<(String, Vec<u8>)>,
+    plan: Plan,
+    piece: usize,
+    stages: BySlot<Stage>,
+    faults: BySlot<Count>,
+    report: Vec<u8>,
+    cert_out: Vec<u8>,
+    ghost has_piece: { 0 < piece },
+}
+
+impl MemoryDesk {
+    ghost use Rattle.frag_io.specs.Memory.{bytes_at, is_begun_at, is_finished_at, file_of, told_written, faults_of, piece_of, failing_of, calls_made};
+
+    /// A desk over these files, of which the first of a name counts. These calls fail; the others move at most
+    /// `piece` bytes each. No slot is begun.
+    pub fn new(
+        alloc: Global,
+        files: Vec<(String, Vec<u8>)>,
+        failing: Vec<Failing>,
+        piece: usize,
+    ) -> MemoryDesk
+        requires { 0 < piece }
+        ensures unbegun { (slot : Slot) → ⟦<MemoryDesk as Desk>⟧.begun result slot ≡ false }
+        ensures unfinished { (slot : Slot) → ⟦<MemoryDesk as Desk>⟧.finished result slot ≡ false }
+        ensures empty { (slot : Slot) → ⟦<MemoryDesk as Desk>⟧.written result slot ≡ Some [] }
+        ensures faultless { (slot : Slot) → ⟦<MemoryDesk as Desk>⟧.faults result slot ≡ 0 }
+        ensures files { (name : List ℕ)
+            → ⟦<MemoryDesk as Desk>⟧.gives result name ≡ bytes_under files.items name }
+        ensures failing { failing_of result ≡ failing.items }
+        ensures uncalled { (kind : CallKind) → calls_made result kind ≡ 0 }
+        ensures piece { piece_of result ≡ piece }
+    {
+        MemoryDesk {
+            files,
+            plan: Plan::new(failing),
+            piece,
+            stages: BySlot::of(Stage::Fresh),
+            faults: BySlot::of(Count::zero()),
+            report: Vec::new(alloc),
+            cert_out: Vec::new(alloc),
+        }
+    }
+
+    /// The bytes that were written to a slot.
+    pub fn written(&self, slot: Slot) -> &[u8]
+        ensures { ⟦<MemoryDesk as Desk>⟧.written self.now slot ≡ Some result.now }
+    {
+        match (self.stages.at(slot), slot) {
+            (Stage::Fresh, _) => &[],
+            (_, Slot::Report) => &self.report,
+            (_, Slot::CertOut) => &self.cert_out,
+            _ => &[],
+        }
+    }
+
+    /// How many faults of a slot were counted.
+    pub fn faults(&self, slot: Slot) -> u64
+        ensures { result ≡ ⟦<MemoryDesk as Desk>⟧.faults self.now slot }
+    {
+        self.faults.at(slot).value()
+    }
+
+    // Counts a fault of a slot, and tells it.
+    fn fail(&mut self, slot: Slot) -> DeskFault
+        ensures fault { result ≡ DeskFault.Failed }
+        ensures counted { (at self.new.faults slot).value ≡ raised (at self.old.faults slot).value }
+        ensures others { SameBut slot (at self.old.faults) (at self.new.faults) }
+        ensures rest { self.new ≡ record self.old { faults = self.new.faults } }
+    {
+        let count = self.faults.at(slot);
+        self.faults.put(slot, count.raised());
+        DeskFault::Failed
+    }
+
+    // Counts a call, and tells whether it is to fail.
+    fn is_due(&mut self, kind: CallKind) -> bool
+        ensures due { IsTrue result ↔ IsDue self.old.plan kind }
+        ensures counted { CountsCall kind self.old.plan self.new.plan }
+        ensures rest { self.new ≡ record self.old { plan = self.new.plan } }
+    {
+        self.plan.is_due(kind)
+    }
+
+    // Puts bytes behind those of a written slot.
+    fn append(&mut self, slot: Slot, bytes: &[u8]) -> Result<(), AllocError>
+        requires { IsWritten slot }
+        ensures ok { OnOk result (bytes_at self.new slot ≡ bytes_at self.old slot ++ bytes.now) }
+        ensures err { OnErr result (bytes_at self.new slot ≡ bytes_at self.old slot) }
+        ensures others { SameBut slot (bytes_at self.old) (bytes_at self.new) }
+        ensures rest { self.new
+            ≡ record self.old { report = self.new.report; cert_out = self.new.cert_out } }
+    {
+        match slot {
+            Slot::Report => self.report.extend_from_slice(bytes),
+            Slot::CertOut => self.cert_out.extend_from_slice(bytes),
+            _ => unreachable!(),
+        }
+    }
+
+    // Empties a slot.
+    fn clear(&mut self, slot: Slot)
+        ensures own { bytes_at self.new slot ≡ [] }
+        ensures others { SameBut slot (bytes_at self.old) (bytes_at self.new) }
+        ensures rest { self.new
+            ≡ record self.old { report = self.new.report; cert_out = self.new.cert_out } }
+    {
+        match slot {
+            Slot::Report => self.report.clear(),
+            Slot::CertOut => self.cert_out.clear(),
+            _ => {}
+        }
+    }
+}
+
+impl Desk for MemoryDesk {
+    ghost use Rattle.frag_io.specs.declared.desk.Slot.TheVariants.{Report};
+    ghost use Rattle.frag_io.specs.Desk.{IsEmpty, appended, Keeps, AddsOnOk, HasCause, Moves};
+    ghost use Rattle.frag_io.specs.Memory.{bytes_at, is_begun_at, is_finished_at, file_of, left_of, told_left, told_written, faults_of, piece_of, FailsNext, is_failed, Counts};
+    ghost use Rattle.frag_io.specs.Stage.{finished_is_begun, fresh_is_empty};
+
+    ghost begun = { is_begun_at };
+
+    ghost finished = { is_finished_at };
+
+    ghost gives = { file_of };
+
+    ghost left = { told_left };
+
+    ghost written = { told_written };
+
+    ghost faults = { faults_of };
+
+    ghost finished_was_begun = { λ desk slot is. finished_is_begun (at desk.stages slot) is };
+
+    ghost unbegun_is_empty = { λ desk slot _ is. fresh_is_empty (at desk.stages slot) (bytes_at desk slot) is };
+
+    ghost counts_fit = { λ desk slot. (at desk.faults slot).fits };
+
+    fn begin(&mut self, _alloc: Global, slot: Slot, name: &str) -> Result<(), DeskFault>
+        requires fresh { is_begun_at self.old slot ≡ false }
+        requires unnamed { slot ≡ Report → name.now ≡ [] }
+        ensures begun { AddsOnOk slot (is_begun_at self.old) (is_begun_at self.new) result }
+        ensures finished { Same (is_finished_at self.old) (is_finished_at self.new) }
+        ensures left { OnOk result (IsRead slot → told_left self.new slot ≡ file_of self.old name.now) }
+        ensures written { OnOk result (IsWritten slot → IsEmpty (told_written self.new slot)) }
+        ensures keeps { Keeps file_of told_left told_written faults_of slot self.old self.new }
+        ensures cause { HasCause (faults_of self.old slot) (faults_of self.new slot) result }
+        ensures failed { (result ≡ Err DeskFault.Failed)
+            ↔ (FailsNext self.old CallKind.Begin ⊎ (IsRead slot × (file_of self.old name.now ≡ None))) }
+        ensures takes_no_memory { result ≢ Err DeskFault.OutOfMemory }
+        ensures counts { Counts CallKind.Begin slot (is_failed result) self.old self.new }
+    {
+        if self.is_due(CallKind::Begin) {
+            return Err(self.fail(slot));
+        }
+        let Some(stage) = first_stage(&self.files, slot, name) else {
+            return Err(self.fail(slot));
+        };
+        self.clear(slot);
+        self.stages.put(slot, stage);
+        Ok(())
+    }
+
+    fn read(&mut self, slot: Slot, buffer: &mut [u8]) -> Result<usize, DeskFault>
+        requires read { IsRead slot }
+        requires begun { is_begun_at self.old slot ≡ true }
+        requires room { 0 < length buffer.old }
+        ensures moved { IfOk result (λ n.
+            Moves (told_left self.old slot) (told_left self.new slot) buffer.new n) }
+        ensures end { IfOk result (λ n.
+            IfSome (told_left self.old slot) (λ bytes. (n ≡ 0) ↔ (bytes ≡ []))) }
+        ensures fits { IfOk result (λ n. n ≤ length buffer.old) }
+        ensures unmoved { OnErr result (told_left self.new slot ≡ told_left self.old slot) }
+        ensures begun { Same (is_begun_at self.old) (is_begun_at self.new) }
+        ensures finished { Same (is_finished_at self.old) (is_finished_at self.new) }
+        ensures keeps { Keeps file_of told_left told_written faults_of slot self.old self.new }
+        ensures cause { HasCause (faults_of self.old slot) (faults_of self.new slot) result }
+        ensures takes_no_memory { result ≢ Err DeskFault.OutOfMemory }
+        ensures failed { (result ≡ Err DeskFault.Failed) ↔ FailsNext self.old CallKind.Read }
+        ensures piece { IfOk result (λ n.
+            n ≡ min (min (length (left_of self.old slot)) (length buffer.old)) (piece_of self.old)) }
+        ensures counts { Counts CallKind.Read slot (is_failed result) self.old self.new }
+    {
+        if self.is_due(CallKind::Read) {
+            return Err(self.fail(slot));
+        }
+        let Stage::Reading(source) = self.stages.at(slot) else {
+            return Ok(0);
+        };
+        let rest = rest(&self.files, source);
+        let n = rest.len().min(buffer.len()).min(self.piece);
+        buffer[..n].copy_from_slice(&rest[..n]);
+        let done = source.done + n;
+        self.stages
+            .put(slot, Stage::Reading(Source { done, ..source }));
+        Ok(n)
+    }
+
+    fn write(&mut self, _alloc: Global, slot: Slot, bytes: &[u8]) -> Result<usize, DeskFault>
+        requires written { IsWritten slot }
+        requires begun { is_begun_at self.old slot ≡ true }
+        requires unfinished { is_finished_at self.old slot ≡ false }
+        ensures appended { IfOk result (λ n.
+            told_written self.new slot ≡ appended (told_written self.old slot) (take n bytes.now)) }
+        ensures fits { IfOk result (λ n. n ≤ length bytes.now) }
+        ensures some { IfOk result (λ n. bytes.now ≢ [] → 0 < n) }
+        ensures unwritten { OnErr result (told_written self.new slot ≡ told_written self.old slot) }
+        ensures begun { Same (is_begun_at self.old) (is_begun_at self.new) }
+        ensures finished { Same (is_finished_at self.old) (is_finished_at self.new) }
+        ensures keeps { Keeps file_of told_left told_written faults_of slot self.old self.new }
+        ensures cause { HasCause (faults_of self.old slot) (faults_of self.new slot) result }
+        ensures failed { (result ≡ Err DeskFault.Failed) ↔ FailsNext self.old CallKind.Write }
+        ensures piece { IfOk result (λ n. n ≡ min (length bytes.now) (piece_of self.old)) }
+        ensures counts { Counts CallKind.Write slot (is_failed result) self.old self.new }
+    {
+        if self.is_due(CallKind::Write) {
+            return Err(self.fail(slot));
+        }
+        let n = bytes.len().min(self.piece);
+        match self.append(slot, &bytes[..n]) {
+            Ok(()) => Ok(n),
+            Err(_) => Err(DeskFault::OutOfMemory),
+        }
+    }
+
+    fn finish(&mut self, slot: Slot) -> Result<(), DeskFault>
+        requires written { IsWritten slot }
+        requires begun { is_begun_at self.old slot ≡ true }
+        requires unfinished { is_finished_at self.old slot ≡ false }
+        ensures finished { AddsOnOk slot (is_finished_at self.old) (is_finished_at self.new) result }
+        ensures begun { Same (is_begun_at self.old) (is_begun_at self.new) }
+        ensures unchanged { told_written self.new slot ≡ told_written self.old slot }
+        ensures keeps { Keeps file_of told_left told_written faults_of slot self.old self.new }
+        ensures cause { HasCause (faults_of self.old slot) (faults_of self.new slot) result }
+        ensures takes_no_memory { result ≢ Err DeskFault.OutOfMemory }
+        ensures failed { (result ≡ Err DeskFault.Failed) ↔ FailsNext self.old CallKind.Finish }
+        ensures counts { Counts CallKind.Finish slot (is_failed result) self.old self.new }
+    {
+        if self.is_due(CallKind::Finish) {
+            return Err(self.fail(slot));
+        }
+        self.stages.put(slot, Stage::Finished);
+        Ok(())
+    }
+}
