@@ -1,0 +1,5 @@
+pub mod Digits
+pub mod Examples
+pub mod Grammar
+pub mod Rounding
+pub mod Reading

@@ -1,0 +1,4 @@
+pub mod Numeral
+pub mod Units
+pub mod FixedText
+pub mod Tenths

@@ -1,0 +1,52 @@
+-- Numerals: the parts of a text, and which texts are numerals.
+use Rattle.std.specs.Prelude.{◌++◌, ℕ, List, Bool, ◌&&◌, ◌||◌, not, ◌==◌, nat_lt, length, if◌then◌else◌}
+use Rattle.std.specs.List.{before_first, after_first, list_any}
+use Rattle.std.specs.Str.{all_ascii_digits}
+use Rattle.std.specs.Str.Parse.{without_leading_plus, without_leading_sign, starts_with_minus, digits_value}
+
+-- `e` or `E`, which stands before the exponent
+abbrev pub is_mark : ℕ → Bool
+is_mark byte = byte == 101 || byte == 69
+
+abbrev pub is_point : ℕ → Bool
+is_point byte = byte == 46
+
+-- what stands before the mark, without a leading plus
+abbrev pub significand_of : List ℕ → List ℕ
+significand_of text = without_leading_plus (before_first is_mark text)
+
+-- what stands before the point, and what stands behind it; where there is no point, all of it and nothing
+abbrev pub whole_of : List ℕ → List ℕ
+whole_of text = before_first is_point (significand_of text)
+
+abbrev pub fraction_of : List ℕ → List ℕ
+fraction_of text = after_first is_point (significand_of text)
+
+-- what stands behind the mark
+abbrev pub exponent_of : List ℕ → List ℕ
+exponent_of text = after_first is_mark text
+
+-- at least one byte, and all of them decimal digits
+abbrev pub is_digits : List ℕ → Bool
+is_digits bytes = nat_lt 0 (length bytes) && all_ascii_digits bytes
+
+-- where there is a mark, an optional sign and at least one digit stand behind it
+unfoldable pub is_exponent : List ℕ → Bool
+is_exponent text = not (list_any is_mark text) || is_digits (without_leading_sign (exponent_of text))
+
+-- a numeral: an optional plus, then digits, before and behind an optional point, at least one in all, and then the exponent
+unfoldable pub is_numeral : List ℕ → Bool
+is_numeral text = is_digits (whole_of text ++ fraction_of text) && is_exponent text
+
+-- by how many places an exponent raises the digits, and by how many it lowers them
+abbrev pub raise_by : List ℕ → ℕ
+raise_by exponent = if starts_with_minus exponent then 0 else digits_value 10 (without_leading_sign exponent)
+
+abbrev pub lower_by : List ℕ → ℕ
+lower_by exponent = if starts_with_minus exponent then digits_value 10 (without_leading_sign exponent) else 0
+
+abbrev pub raise_of : List ℕ → ℕ
+raise_of text = raise_by (exponent_of text)
+
+abbrev pub lower_of : List ℕ → ℕ
+lower_of text = lower_by (exponent_of text)

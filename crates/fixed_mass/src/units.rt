@@ -1,0 +1,221 @@
+//! Numerals read to whole units.
+ghost use Rattle.std.specs.Prelude.{◌≡◌, ◌≤◌, ◌<◌, ◌+◌, ◌-◌, ◌*◌, ◌/◌, ◌^◌, ◌++◌, ◌↔◌, ℕ, List, Err, IfOk, IfSome, IsNone, IsTrue, length, take, true, false};
+ghost use Rattle.std.specs.Result.{result_ok};
+ghost use Rattle.std.specs.Str.{all_ascii_digits};
+ghost use Rattle.std.specs.Str.Parse.{digits_value, digits_value_after};
+ghost use Rattle.fixed_mass.specs.Numeral.{is_numeral};
+ghost use Rattle.fixed_mass.specs.Tenths.{leading_of, rounded_of, tenths_of};
+ghost use Rattle.fixed_mass.specs.Units.{longest_numeral, most_units, readable_units, units_of};
+
+use crate::numeral::Numeral;
+use crate::powers::POWERS_OF_TEN;
+
+/// How many bytes a numeral may have.
+const LONGEST: usize = 40;
+
+/// How many units a numeral may stand for.
+const MOST_UNITS: u64 = 1_000_000_000_000_000_000;
+
+/// Why a text is not read as a number of units.
+#[derive(Clone, Copy, Debug, PartialEq, Eq)]
+pub enum NumeralFault {
+    /// The text is no numeral.
+    NotANumeral,
+    /// The numeral has more than 40 bytes.
+    TooLong,
+    /// The rounded number is above 10^18.
+    OutOfRange,
+}
+
+/// The value of a decimal numeral in units of 10^-scale, rounded to whole units, half a unit up.
+pub fn read_units(text: &[u8], scale: u8) -> Result<u64, NumeralFault>
+    requires { scale ≤ 9 }
+    ensures units { result_ok result ≡ readable_units scale text.now }
+    ensures range { IfOk result (λ units. units ≤ most_units) }
+
+    // The faults, in this order.
+    ensures not_a_numeral { (result ≡ Err NumeralFault.NotANumeral) ↔ (is_numeral text.now ≡ false) }
+    ensures too_long { (result ≡ Err NumeralFault.TooLong)
+        ↔ (IsTrue (is_numeral text.now) × (longest_numeral < length text.now)) }
+    ensures out_of_range { (result ≡ Err NumeralFault.OutOfRange)
+        ↔ (IsTrue (is_numeral text.now) × (length text.now ≤ longest_numeral) × (most_units < units_of scale text.now)) }
+{
+    let Some(numeral) = Numeral::of(text) else {
+        return Err(NumeralFault::NotANumeral);
+    };
+    if text.len() > LONGEST {
+        return Err(NumeralFault::TooLong);
+    }
+    match rounded_units(&numeral, scale) {
+        Some(units) => Ok(units),
+        None => Err(NumeralFault::OutOfRange),
+    }
+}
+
+/// The rounded number of units. `None` where it is above the most.
+fn rounded_units(numeral: &Numeral<'_>, scale: u8) -> Option<u64>
+    requires { scale ≤ 9 }
+    ensures some { IfSome result (λ units. units ≡ rounded_of scale numeral.now.whole.now
+        numeral.now.fraction.now numeral.now.raised numeral.now.lowered) }
+    ensures within { IfSome result (λ units. units ≤ most_units) }
+    ensures none { IsNone result → most_units < rounded_of scale numeral.now.whole.now
+        numeral.now.fraction.now numeral.now.raised numeral.now.lowered }
+{
+    let tenths = tenths(numeral, scale)?;
+    let units = tenths / 10 + u64::from(tenths % 10 >= 5);
+    if units <= MOST_UNITS {
+        Some(units)
+    } else {
+        None
+    }
+}
+
+/// The tenths of units that a numeral stands for, rounded down. `None` where they do not fit.
+fn tenths(numeral: &Numeral<'_>, scale: u8) -> Option<u64>
+    requires { scale ≤ 9 }
+    ensures some { IfSome result (λ tenths. tenths ≡ tenths_of scale numeral.now.whole.now
+        numeral.now.fraction.now numeral.now.raised numeral.now.lowered) }
+    ensures none { IsNone result → 2 ^ 64 ≤ tenths_of scale numeral.now.whole.now
+        numeral.now.fraction.now numeral.now.raised numeral.now.lowered }
+{
+    let up = usize::from(scale) + 1 + numeral.raised;
+    let down = numeral.fraction.len() + numeral.lowered;
+    let value = leading_value(numeral.whole, numeral.fraction, down.saturating_sub(up))?;
+    raised_value(value, up.saturating_sub(down))
+}
+
+/// A number with places raised. `None` where it does not fit.
+fn raised_value(value: u64, places: usize) -> Option<u64>
+    ensures some { IfSome result (λ raised. raised ≡ value * 10 ^ places) }
+    ensures none { IsNone result → 2 ^ 64 ≤ value * 10 ^ places }
+{
+    if value == 0 {
+        return Some(0);
+    }
+    let power = POWERS_OF_TEN.get(places)?;
+    value.checked_mul(*power)
+}
+
+/// The number that the digits before and behind the point write, without the last of them. `None` where it does not fit.
+fn leading_value(whole: &[u8], fraction: &[u8], dropped: usize) -> Option<u64>
+    requires whole { IsTrue (all_ascii_digits whole.now) }
+    requires fraction { IsTrue (all_ascii_digits fraction.now) }
+    ensures some { IfSome result (λ value. value ≡ leading_of dropped (whole.now ++ fraction.now)) }
+    ensures none { IsNone result → 2 ^ 64 ≤ leading_of dropped (whole.now ++ fraction.now) }
+{
+    let kept = (whole.len() + fraction.len()).saturating_sub(dropped);
+    let from_whole = kept.min(whole.len());
+    let value = read_on(0, &whole[..from_whole])?;
+    read_on(value, &fraction[..kept - from_whole])
+}
+
+/// The number that further digits make of the one so far. `None` where it does not fit.
+fn read_on(start: u64, digits: &[u8]) -> Option<u64>
+    requires { IsTrue (all_ascii_digits digits.now) }
+    ensures some { IfSome result (λ value. value ≡ digits_value_after 10 start digits.now) }
+    ensures none { IsNone result → 2 ^ 64 ≤ digits_value_after 10 start digits.now }
+{
+    let mut value = start;
+    for digit in digits {
+        value = value
+            .checked_mul(10)?
+            .checked_add(u64::from(*digit - b'0'))?;
+    }
+    Some(value)
+}
+
+#[cfg(test)]
+mod tests {
+    use super::*;
+    use NumeralFault::{NotANumeral, OutOfRange, TooLong};
+
+    const MOST: u64 = 1_000_000_000_000_000_000;
+
+    #[test]
+    fn reads_numerals_to_whole_units(rt: HostRuntime) {
+        for (text, scale, want) in [
+            ("1.8107066405e2", 7, 1_810_706_641),
+            ("163.0601", 7, 1_630_601_000),
+            ("19.0178410", 7, 190_178_410),
+            ("1000", 6, 1_000_000_000),
+            (".5", 7, 5_000_000),
+            ("5.", 7, 50_000_000),
+            ("5", 7, 50_000_000),
+            ("+5.0e-1", 7, 5_000_000),
+            ("5E+2", 7, 5_000_000_000),
+            ("005.10", 7, 51_000_000),
+            ("123e-3", 7, 1_230_000),
+            ("0e999", 7, 0),
+            ("0e99999999999999999999", 7, 0),
+            ("1e-999", 7, 0),
+            ("0.00000005", 7, 1),
+            ("0.000000049999999", 7, 0),
+            ("0.00000015", 7, 2),
+            ("5e-8", 7, 1),
+            ("49e-9", 7, 0),
+            ("0.5", 0, 1),
+            ("0.49", 0, 0),
+            ("1.5", 0, 2),
+            ("1.0000000005", 9, 1_000_000_001),
+            ("100000000000", 7, MOST),
+            ("100000000000.00000004", 7, MOST),
+            ("99999999999.99999995", 7, MOST),
+            ("1e11", 7, MOST),
+            ("1000000000000000000.4", 0, MOST),
+            ("1e00000000000000000000000000000000000001", 7, 100_000_000),
+            ("0e99999999999999999999999999999999999999", 7, 0),
+            ("1e-9999999999999999999999999999999999999", 7, 0),
+            (
+                "123456789012345678901234567890123456e-20",
+                0,
+                1_234_567_890_123_457,
+            ),
+            ("0000000000000000000000000000000000000000", 7, 0),
+            ("0000000000000000000000000000000000000019", 0, 19),
+        ] {
+            assert!(rt; scale <= 9);
+            assert_eq!(rt; read_units(text.as_bytes(), scale), Ok(want), "at {text}");
+        }
+    }
+
+    #[test]
+    fn refuses_in_order(rt: HostRuntime) {
+        for (text, scale, want) in [
+            ("", 7, NotANumeral),
+            (".", 7, NotANumeral),
+            ("+", 7, NotANumeral),
+            ("-1", 7, NotANumeral),
+            (" 1", 7, NotANumeral),
+            ("1 ", 7, NotANumeral),
+            ("++1", 7, NotANumeral),
+            ("1+", 7, NotANumeral),
+            ("1.2.3", 7, NotANumeral),
+            ("1,5", 7, NotANumeral),
+            ("1e", 7, NotANumeral),
+            ("1e+", 7, NotANumeral),
+            ("1e-", 7, NotANumeral),
+            ("1e+-1", 7, NotANumeral),
+            ("1e1.0", 7, NotANumeral),
+            ("1e1e1", 7, NotANumeral),
+            ("e5", 7, NotANumeral),
+            ("+e5", 7, NotANumeral),
+            (".e5", 7, NotANumeral),
+            ("0x10", 7, NotANumeral),
+            ("nan", 7, NotANumeral),
+            ("00000000000000000000000000000000000000001x", 7, NotANumeral),
+            ("00000000000000000000000000000000000000001", 7, TooLong),
+            ("99999999999999999999999999999999999999999", 7, TooLong),
+            ("9999999999999999999999999999999999999999", 7, OutOfRange),
+            ("1e12", 7, OutOfRange),
+            ("1e99999999999999999999999999999999999999", 7, OutOfRange),
+            ("100000000000.00000005", 7, OutOfRange),
+            ("1000000000000000000.5", 0, OutOfRange),
+            ("18446744073709551616", 0, OutOfRange),
+            ("1e19", 0, OutOfRange),
+            ("1e20", 0, OutOfRange),
+        ] {
+            assert!(rt; scale <= 9);
+            assert_eq!(rt; read_units(text.as_bytes(), scale), Err(want), "at {text}");
+        }
+    }
+}
