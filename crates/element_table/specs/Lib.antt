@@ -1,0 +1,6 @@
+pub mod Elements
+pub mod Formula
+pub mod FormulaText
+pub mod Window
+pub mod Rule
+pub mod Listed

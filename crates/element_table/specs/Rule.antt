@@ -1,0 +1,50 @@
+-- The rules that a formula may have to pass.
+use Rattle.std.specs.Prelude.{◌≡◌, ◌≢◌, ◌-◌, ◌++◌, ℕ, ℤ, pos, ◌+ℤ◌, ◌-ℤ◌, ◌*ℤ◌, ◌≤ℤ◌, int_rem, List, ◌∷◌, length, map, replicate, ⊤}
+use Rattle.std.specs.List.{AllByRecursion}
+use Rattle.element_table.specs.Elements.{valences}
+use Rattle.element_table.specs.declared.elements.TheConstants.{ELEMENTS, PLACES}
+
+pub data Parity : Type 0 where
+  any : Parity
+  even : Parity
+  odd : Parity
+
+-- a number made of a formula's counts, which has to be at least 0 and of some parity
+pub record Rule : Type 0 where
+  pub coefficients : List ℤ
+  pub constant : ℤ
+  pub parity : Parity
+
+-- the sum of each coefficient times the count at its place
+abbrev pub linear_sum : List ℤ → List ℕ → ℤ
+linear_sum (coefficient ∷ coefficients) (count ∷ counts) = (coefficient *ℤ pos count) +ℤ linear_sum coefficients counts
+linear_sum coefficients counts = pos 0
+
+abbrev pub value_of : Rule → List ℕ → ℤ
+value_of rule counts = rule.constant +ℤ linear_sum rule.coefficients counts
+
+abbrev pub HasParity : Parity → ℤ → Type 0
+HasParity any n = ⊤
+HasParity even n = int_rem n (pos 2) ≡ pos 0
+HasParity odd n = int_rem n (pos 2) ≢ pos 0
+
+-- a rule holds for a formula: its number is at least 0 and has the parity
+pub record Holds (rule : Rule) (counts : List ℕ) : Type 0 where
+  pub not_negative : pos 0 ≤ℤ value_of rule counts
+  pub parity : HasParity rule.parity (value_of rule counts)
+
+-- a formula passes the rules: each of them holds for it
+abbrev pub Passes : List Rule → List ℕ → Type 0
+Passes rules counts = AllByRecursion (λ rule. Holds rule counts) rules
+
+-- what an atom adds to twice the number of rings and double bonds, by places; a place without an element adds nothing
+abbrev pub bond_coefficients : List ℤ
+bond_coefficients = map (λ valence. pos valence -ℤ pos 2) valences ++ replicate (PLACES - length ELEMENTS) (pos 0)
+
+-- twice the number of rings and double bonds
+abbrev pub rdbe2_of : List ℕ → ℤ
+rdbe2_of counts = pos 2 +ℤ linear_sum bond_coefficients counts
+
+-- the rule that says rdbe2_of counts ≥ bound
+abbrev pub fragment_rule_of : ℤ → Rule
+fragment_rule_of bound = record { coefficients = bond_coefficients; constant = pos 2 -ℤ bound; parity = any }

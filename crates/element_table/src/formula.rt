@@ -1,0 +1,116 @@
+//! A formula as its counts, and what is computed from them.
+ghost use Rattle.std.specs.Prelude.{◌≡◌, ◌≤◌, ◌<◌, ◌+◌, ◌*◌, ◌↔◌, ◌==◌, ℕ, List, IsTrue, length, slice_index, slice_set};
+ghost use Rattle.std.specs.List.{list_all};
+ghost use Rattle.element_table.specs.Formula.{IsFormula, empty_formula, mass_of, IsWithin, loss_of, union_of, formula_cmp};
+
+use crate::elements::{ELEMENTS, MAX_COUNT, PLACES, mass_at};
+use std::cmp::Ordering;
+use std::marker::Model;
+
+/// A molecular formula: how many atoms it has of each element of the table, by places.
+#[derive(Clone, Copy, Debug, PartialEq, Eq, PartialOrd, Ord, Hash)]
+pub struct Formula {
+    counts: [u16; PLACES],
+}
+
+impl Model for Formula {
+    ghost Value = { List ℕ };
+
+    ghost view = { λ formula. formula.counts };
+
+    ghost invariant = { λ formula. IsFormula formula.counts };
+
+    ghost inverse = { λ counts. record { counts = counts } };
+}
+
+impl Formula {
+    /// No atom at all.
+    pub fn empty() -> Formula
+        ensures { result ≡ empty_formula }
+    {
+        Formula {
+            counts: [0; PLACES],
+        }
+    }
+
+    /// Whether there is no atom at all.
+    pub(crate) fn is_empty(&self) -> bool
+        ensures { result ≡ list_all (λ count. count == 0) self.now }
+    {
+        self.counts.iter().all(|count| *count == 0)
+    }
+
+    /// The count at a place.
+    pub fn count(&self, place: usize) -> u16
+        requires { place < PLACES }
+        ensures count { result ≡ slice_index self.now place }
+        ensures capped { result ≤ MAX_COUNT }
+        ensures formula { IsFormula self.now }
+    {
+        self.counts[place]
+    }
+
+    /// The formula with another count at one place.
+    pub fn with(&self, place: usize, count: u16) -> Formula
+        requires element { place < length ELEMENTS }
+        requires capped { count ≤ MAX_COUNT }
+        ensures { result ≡ slice_set self.now place count }
+    {
+        let mut counts = self.counts;
+        counts[place] = count;
+        Formula { counts }
+    }
+
+    /// The mass, in units of 10^-7 Da.
+    pub fn mass(&self) -> u64
+        ensures mass { result ≡ mass_of self.now }
+        ensures light { result ≤ 11 * (1999 * 1269044719) }
+    {
+        let mut mass = 0;
+        for place in 0..ELEMENTS.len() {
+            mass += u64::from(self.counts[place]) * mass_at(place);
+        }
+        mass
+    }
+
+    /// Whether each count is at most the other's.
+    pub fn within(&self, other: &Formula) -> bool
+        ensures { IsTrue result ↔ IsWithin self.now other.now }
+    {
+        self.counts
+            .iter()
+            .zip(other.counts.iter())
+            .all(|(count, most)| count <= most)
+    }
+
+    /// The loss to a part of this formula.
+    pub fn minus(&self, part: &Formula) -> Formula
+        requires { IsWithin part.now self.now }
+        ensures { result ≡ loss_of self.now part.now }
+    {
+        let mut counts = self.counts;
+        for (place, count) in counts.iter_mut().enumerate() {
+            *count -= part.counts[place];
+        }
+        Formula { counts }
+    }
+
+    /// This formula and another together.
+    pub fn plus(&self, other: &Formula) -> Formula
+        requires { (place : ℕ) → slice_index self.now place + slice_index other.now place ≤ MAX_COUNT }
+        ensures { result ≡ union_of self.now other.now }
+    {
+        let mut counts = self.counts;
+        for (place, count) in counts.iter_mut().enumerate() {
+            *count += other.counts[place];
+        }
+        Formula { counts }
+    }
+
+    /// Formula order: the counts are compared from the first place on, the smaller first.
+    pub fn compare(&self, other: &Formula) -> Ordering
+        ensures { result ≡ formula_cmp self.now other.now }
+    {
+        self.counts.cmp(&other.counts)
+    }
+}
