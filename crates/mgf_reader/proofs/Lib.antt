@@ -1,0 +1,12 @@
+pub mod Trimmed
+pub mod Fields
+pub mod LineForm
+pub mod ChargeDigits
+pub mod ChargeList
+pub mod OneMore
+pub mod Following
+pub mod LineFeeds
+pub mod Extending
+pub mod Standing
+pub mod Answering
+pub mod OneReading

@@ -1,0 +1,178 @@
+//! The form of a line.
+ghost use Rattle.std.specs.Prelude.{◌≡◌, IsTrue, false, slice_index};
+ghost use Rattle.mgf_reader.specs.Bytes.{is_blank, is_comment_mark, is_name_byte, is_peak_start};
+ghost use Rattle.mgf_reader.specs.Form.{form_of, form_within};
+ghost use Rattle.mgf_reader.specs.Line.{form_of_line};
+
+use crate::bytes::{ByteClass, are_words, first_place, trim};
+
+/// A line by its form. What it holds is borrowed from the line.
+#[derive(Clone, Copy)]
+pub enum Line<'a> {
+    /// More bytes than a line may have.
+    TooLong,
+    Blank,
+    Comment,
+    Begin,
+    End,
+    /// The key and the value, without the blanks around them.
+    Parameter(&'a [u8], &'a [u8]),
+    /// The bytes from which the fields of a peak are taken.
+    Peak(&'a [u8]),
+    Remark,
+    NoForm,
+}
+
+/// How many bytes a line may have before its line feed.
+pub const LONGEST_LINE: usize = 65_536;
+
+/// The form of a line, given without its line feed.
+pub fn line_of(bytes: &[u8]) -> Line<'_>
+    ensures { form_of_line result ≡ form_of bytes.now }
+{
+    if bytes.len() > LONGEST_LINE {
+        return Line::TooLong;
+    }
+    form_by_first(trim(ByteClass::Edge, bytes))
+}
+
+/// The form of a line without what is dropped at its ends. Its first byte tells it, but for the lines that begin as a name does.
+/// Most lines are peaks, so these come first.
+fn form_by_first(line: &[u8]) -> Line<'_>
+    requires { is_blank (slice_index line.now 0) ≡ false }
+    ensures { form_of_line result ≡ form_within line.now }
+{
+    let [first, ..] = line else {
+        return Line::Blank;
+    };
+    if is_peak_start(*first) {
+        Line::Peak(line)
+    } else if is_name_byte(*first) {
+        form_of_named(line)
+    } else if is_comment_mark(*first) {
+        Line::Comment
+    } else {
+        Line::NoForm
+    }
+}
+
+/// The form of such a line that begins with a letter or an underscore.
+fn form_of_named(line: &[u8]) -> Line<'_>
+    requires { IsTrue (is_name_byte (slice_index line.now 0)) }
+    ensures { form_of_line result ≡ form_within line.now }
+{
+    if are_words(line, b"BEGIN", b"IONS") {
+        return Line::Begin;
+    }
+    if are_words(line, b"END", b"IONS") {
+        return Line::End;
+    }
+    let equals = first_place(ByteClass::Equals, line);
+    if equals == line.len() {
+        return Line::Remark;
+    }
+    let key = trim(ByteClass::Blank, &line[..equals]);
+    let value = trim(ByteClass::Blank, &line[equals + 1..]);
+    Line::Parameter(key, value)
+}
+
+/// A digit, a point or a plus.
+fn is_peak_start(byte: u8) -> bool
+    ensures { result ≡ is_peak_start byte }
+{
+    byte.is_ascii_digit() || byte == b'.' || byte == b'+'
+}
+
+/// A letter or an underscore.
+fn is_name_byte(byte: u8) -> bool
+    ensures { result ≡ is_name_byte byte }
+{
+    byte.is_ascii_uppercase() || byte.is_ascii_lowercase() || byte == b'_'
+}
+
+fn is_comment_mark(byte: u8) -> bool
+    ensures { result ≡ is_comment_mark byte }
+{
+    byte == b'#' || byte == b';' || byte == b'!' || byte == b'/'
+}
+
+#[cfg(test)]
+mod tests {
+    use super::*;
+    use std::test::Fail;
+
+    fn word_of(line: Line<'_>) -> &'static str {
+        match line {
+            Line::TooLong => "too long",
+            Line::Blank => "blank",
+            Line::Comment => "comment",
+            Line::Begin => "begin",
+            Line::End => "end",
+            Line::Parameter(_, _) => "parameter",
+            Line::Peak(_) => "peak",
+            Line::Remark => "remark",
+            Line::NoForm => "no form",
+        }
+    }
+
+    #[test]
+    fn tells_the_form_of_a_line(rt: HostRuntime) {
+        for (line, want) in [
+            ("", "blank"),
+            (" \t\r", "blank"),
+            ("# note", "comment"),
+            ("\t; BEGIN IONS", "comment"),
+            ("!", "comment"),
+            ("/x=1", "comment"),
+            ("BEGIN IONS\r", "begin"),
+            ("begin ions", "begin"),
+            (" BEGIN\t IONS  ", "begin"),
+            ("BEGIN IONS x", "remark"),
+            ("BEGIN IONS=", "parameter"),
+            ("BEGINIONS", "remark"),
+            ("BEGIN\rIONS", "remark"),
+            ("End Ions", "end"),
+            ("END", "remark"),
+            ("Num Peaks: 1", "remark"),
+            ("_", "remark"),
+            ("_x=1", "parameter"),
+            ("z=", "parameter"),
+            ("1.5 3", "peak"),
+            (".5", "peak"),
+            ("+5 1", "peak"),
+            ("1=2", "peak"),
+            ("-5", "no form"),
+            ("=5", "no form"),
+            ("\0", "no form"),
+            ("\0BEGIN IONS", "no form"),
+        ] {
+            assert_eq!(rt; word_of(line_of(line.as_bytes())), want, "at {line}");
+        }
+        assert_eq!(rt; word_of(line_of(b"\xEF\xBB\xBF#")), "no form");
+    }
+
+    #[test]
+    fn parts_a_key_from_its_value(rt: HostRuntime) {
+        for (line, want_key, want_value) in [
+            ("TITLE=a = b ", "TITLE", "a = b"),
+            ("TITLE=", "TITLE", ""),
+            (" Pepmass \t= 181.0707 5000\r", "Pepmass", "181.0707 5000"),
+            ("PEPMASS\r=5", "PEPMASS\r", "5"),
+            ("TITLE= \r x", "TITLE", "\r x"),
+        ] {
+            let Line::Parameter(key, value) = line_of(line.as_bytes()) else {
+                panic!(rt; "no parameter: {line}")
+            };
+            assert_eq!(rt; key, want_key.as_bytes(), "at {line}");
+            assert_eq!(rt; value, want_value.as_bytes(), "at {line}");
+        }
+    }
+
+    #[test]
+    fn refuses_a_line_of_too_many_bytes(rt: HostRuntime) -> Result<(), Fail> {
+        let bytes = vec![in rt.alloc(); b' '; 65_537]?;
+        assert_eq!(rt; word_of(line_of(&bytes)), "too long");
+        assert_eq!(rt; word_of(line_of(&bytes[1..])), "blank");
+        Ok(())
+    }
+}

@@ -1,0 +1,289 @@
+//! What a parameter line sets, and what a peak line says.
+ghost use Rattle.std.specs.Prelude.{◌≡◌, Some, None, IfOk, IfErr, IfSome, reverse};
+ghost use Rattle.mgf_reader.specs.Bytes.{fields_of};
+ghost use Rattle.mgf_reader.specs.Parameter.{charge_from_end, charge_of, charges_of, parameter_fault, precursor_units, sign_of, signed};
+ghost use Rattle.mgf_reader.specs.PeakLine.{intensity_of, peak_of};
+ghost use Rattle.mgf_reader.specs.declared.fault.MgfKind.TheVariants.{BadCharge};
+ghost use Rattle.mgf_reader.specs.Line.{Says, kind_of};
+
+use crate::bytes::{ByteClass, first_field};
+use crate::spectrum::{Charge, Peak, Sign};
+use fixed_mass::read_units;
+use std::alloc::Global;
+
+/// The scale of m/z: units of 10^-7.
+const MZ_SCALE: u8 = 7;
+
+/// The scale of intensities: units of 10^-6.
+const INTENSITY_SCALE: u8 = 6;
+
+/// The intensity of a peak line that gives none: 1.
+const DEFAULT_INTENSITY: u64 = 1_000_000;
+
+/// How many digits a charge may have.
+const MOST_DIGITS: usize = 3;
+
+/// What a parameter line sets.
+#[derive(Drop)]
+pub enum Setting<'a> {
+    Title(&'a [u8]),
+    Precursor(u64),
+    Charges(Vec<Charge>),
+    /// A key that does not count, or an empty value of one that does.
+    Nothing,
+}
+
+/// Why a parameter line is refused.
+#[derive(Clone, Copy, Debug, PartialEq, Eq)]
+pub enum SettingFault {
+    BadPrecursor,
+    BadCharge,
+    OutOfMemory,
+}
+
+/// What a parameter line sets.
+pub fn read_setting<'a>(
+    alloc: Global,
+    key: &[u8],
+    value: &'a [u8],
+) -> Result<Setting<'a>, SettingFault>
+    ensures right { IfOk result (λ setting. (parameter_fault key.now value.now ≡ None) × Says key.now value.now setting) }
+    ensures refused { IfErr result (λ fault. IfSome (kind_of fault) (λ kind. parameter_fault key.now value.now ≡ Some kind)) }
+{
+    if key.eq_ignore_ascii_case(b"TITLE") {
+        return Ok(Setting::Title(value));
+    }
+    if value.is_empty() {
+        return Ok(Setting::Nothing);
+    }
+    if key.eq_ignore_ascii_case(b"PEPMASS") {
+        let units = read_precursor(value).ok_or(SettingFault::BadPrecursor)?;
+        return Ok(Setting::Precursor(units));
+    }
+    if key.eq_ignore_ascii_case(b"CHARGE") {
+        return Ok(Setting::Charges(read_charges(alloc, value)?));
+    }
+    Ok(Setting::Nothing)
+}
+
+/// The m/z of a precursor: the first field of its value. None where its numeral is refused.
+fn read_precursor(value: &[u8]) -> Option<u64>
+    ensures { result ≡ precursor_units value.now }
+{
+    let (field, _) = first_field(ByteClass::Blank, value)?;
+    read_units(field, MZ_SCALE).ok()
+}
+
+/// The charges of a value, in its order, but for those of value 0.
+fn read_charges(alloc: Global, value: &[u8]) -> Result<Vec<Charge>, SettingFault>
+    ensures right { IfOk result (λ charges. charges_of value.now ≡ Some charges.items) }
+    ensures refused { IfErr result (λ fault. IfSome (kind_of fault) (λ kind. (kind ≡ BadCharge) × (charges_of value.now ≡ None))) }
+{
+    let mut charges = Vec::new(alloc);
+    let mut left = value;
+    while let Some((item, rest)) = first_field(ByteClass::Gap, left) {
+        left = rest;
+        if item.eq_ignore_ascii_case(b"and") {
+            continue;
+        }
+        let Some(charge) = read_charge(item) else {
+            return Err(SettingFault::BadCharge);
+        };
+        if charge.value > 0 && charges.push(charge).is_err() {
+            return Err(SettingFault::OutOfMemory);
+        }
+    }
+    Ok(charges)
+}
+
+/// One item of a list of charges: one to three digits, with at most one sign directly before or behind them.
+fn read_charge(item: &[u8]) -> Option<Charge>
+    ensures { result ≡ charge_of item.now }
+{
+    let [first, rest @ ..] = item else {
+        return None;
+    };
+    match sign_of(*first) {
+        Some(sign) => signed(rest, sign),
+        None => read_from_end(item),
+    }
+}
+
+/// A charge whose sign, where it has one, stands behind its digits.
+fn read_from_end(item: &[u8]) -> Option<Charge>
+    ensures { result ≡ charge_from_end (reverse item.now) }
+{
+    let [before @ .., last] = item else {
+        return None;
+    };
+    match sign_of(*last) {
+        Some(sign) => signed(before, sign),
+        None => signed(item, Sign::Unsigned),
+    }
+}
+
+fn sign_of(byte: u8) -> Option<Sign>
+    ensures { result ≡ sign_of byte }
+{
+    match byte {
+        b'+' => Some(Sign::Plus),
+        b'-' => Some(Sign::Minus),
+        _ => None,
+    }
+}
+
+/// A charge of one to three digits and a sign.
+fn signed(digits: &[u8], sign: Sign) -> Option<Charge>
+    ensures { result ≡ signed digits.now sign }
+{
+    if digits.is_empty() || digits.len() > MOST_DIGITS {
+        return None;
+    }
+    let mut value = 0;
+    for digit in digits {
+        if !digit.is_ascii_digit() {
+            return None;
+        }
+        value = value * 10 + u16::from(*digit - b'0');
+    }
+    Some(Charge { value, sign })
+}
+
+/// The peak of a peak line of this number; none where a numeral of it is refused.
+pub fn read_peak(bytes: &[u8], line: u32) -> Option<Peak>
+    ensures { result ≡ peak_of line (fields_of bytes.now) }
+{
+    let (field, rest) = first_field(ByteClass::Blank, bytes)?;
+    let mz = read_units(field, MZ_SCALE).ok()?;
+    let intensity = read_intensity(rest)?;
+    Some(Peak {
+        mz,
+        intensity,
+        line,
+    })
+}
+
+/// The intensity behind the m/z of a peak line: its next field, or 1 where there is none.
+fn read_intensity(bytes: &[u8]) -> Option<u64>
+    ensures { result ≡ intensity_of (fields_of bytes.now) }
+{
+    match first_field(ByteClass::Blank, bytes) {
+        Some((field, _)) => read_units(field, INTENSITY_SCALE).ok(),
+        None => Some(DEFAULT_INTENSITY),
+    }
+}
+
+#[cfg(test)]
+mod tests {
+    use super::*;
+    use std::process::Abort;
+
+    #[test]
+    fn reads_peak_lines(rt: HostRuntime) {
+        for (line, want) in [
+            (
+                "163.0601\t1000\t1+",
+                Some((1_630_601_000, 1_000_000_000, 9)),
+            ),
+            ("163.0601", Some((1_630_601_000, 1_000_000, 9))),
+            ("163.0601 \t .5", Some((1_630_601_000, 500_000, 9))),
+            ("1 0", Some((10_000_000, 0, 9))),
+            ("1 x", None),
+            ("1x 1", None),
+            ("1,1", None),
+            ("1 -1", None),
+            ("1e12 1", None),
+        ] {
+            let read = read_peak(line.as_bytes(), 9).map(|peak| (
+                peak.mz,
+                peak.intensity,
+                peak.line,
+            ));
+            assert_eq!(rt; read, want, "at {line}");
+        }
+    }
+
+    fn word_of(setting: Result<Setting<'_>, SettingFault>) -> &'static str {
+        match setting {
+            Ok(Setting::Title(_)) => "title",
+            Ok(Setting::Precursor(_)) => "precursor",
+            Ok(Setting::Charges(_)) => "charges",
+            Ok(Setting::Nothing) => "nothing",
+            Err(SettingFault::BadPrecursor) => "bad precursor",
+            Err(SettingFault::BadCharge) => "bad charge",
+            Err(SettingFault::OutOfMemory) => "out of memory",
+        }
+    }
+
+    #[test]
+    fn tells_what_a_key_sets(rt: HostRuntime) {
+        for (key, value, want) in [
+            ("TITLE", "Glucose", "title"),
+            ("Title", "", "title"),
+            ("Pepmass", "181.0707 5000", "precursor"),
+            ("PEPMASS", "", "nothing"),
+            ("PEPMASS", "-1", "bad precursor"),
+            ("PEPMASS", "5,3", "bad precursor"),
+            ("PEPMASS\r", "x", "nothing"),
+            ("CHARGE", "", "nothing"),
+            ("charge", "1", "charges"),
+            ("CHARGE", "+-1", "bad charge"),
+            ("CHARGE", "+1+", "bad charge"),
+            ("CHARGE", "+", "bad charge"),
+            ("CHARGE", "1234", "bad charge"),
+            ("CHARGE", "0000", "bad charge"),
+            ("CHARGE", "1 Mr", "bad charge"),
+            ("CHARGE", "2 +", "bad charge"),
+            ("SCANS", "7", "nothing"),
+            ("", "7", "nothing"),
+        ] {
+            let setting = read_setting(rt.alloc(), key.as_bytes(), value.as_bytes());
+            assert_eq!(rt; word_of(setting), want, "at {key}={value}");
+        }
+    }
+
+    #[test]
+    fn reads_a_precursor(rt: HostRuntime) {
+        let Ok(Setting::Precursor(units)) = read_setting(rt.alloc(), b"pepmass", b"181.0707 5000")
+        else {
+            panic!(rt; "no precursor")
+        };
+        assert_eq!(rt; units, 1_810_707_000);
+    }
+
+    fn charge(value: u16, sign: Sign) -> Charge {
+        Charge { value, sign }
+    }
+
+    fn assert_charges(rt: &(impl Abort + AllocGlobal), value: &str, want: &[Charge]) {
+        let Ok(Setting::Charges(charges)) = read_setting(rt.alloc(), b"CHARGE", value.as_bytes())
+        else {
+            panic!(rt; "no charges: {value}")
+        };
+        assert_eq!(rt; charges.as_slice(), want, "at {value}");
+    }
+
+    #[test]
+    fn reads_charges(rt: HostRuntime) {
+        assert_charges(&rt, "1", &[charge(1, Sign::Unsigned)]);
+        assert_charges(&rt, "1-", &[charge(1, Sign::Minus)]);
+        assert_charges(
+            &rt,
+            "2+ and 1+",
+            &[charge(2, Sign::Plus), charge(1, Sign::Plus)],
+        );
+        assert_charges(
+            &rt,
+            "+12,AND\t-007,,999",
+            &[
+                charge(12, Sign::Plus),
+                charge(7, Sign::Minus),
+                charge(999, Sign::Unsigned),
+            ],
+        );
+        assert_charges(&rt, "0", &[]);
+        assert_charges(&rt, "0+ 3 000-", &[charge(3, Sign::Unsigned)]);
+        assert_charges(&rt, ",", &[]);
+        assert_charges(&rt, "and", &[]);
+    }
+}
