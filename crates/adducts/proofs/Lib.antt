@@ -1,0 +1,4 @@
+pub mod Examples
+pub mod Intervals
+pub mod Marking
+pub mod Usables

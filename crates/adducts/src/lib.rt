@@ -1,0 +1,18 @@
+//! Adducts, the mass windows of their ions, and the peaks of a spectrum that are selected.
+#![tactic(auto)]
+
+mod adduct;
+mod choice;
+mod fitting;
+mod mass_window;
+mod outcome;
+mod selection;
+#[cfg(test)]
+mod tests;
+
+pub use adduct::{ADDUCTS, Adduct, by_name, neutral};
+pub use choice::{Choice, half_width, window};
+pub use fitting::{GREATEST_NEUTRAL_MASS, fit};
+pub use mass_window::Window;
+pub use outcome::Fit;
+pub use selection::select_peaks;
