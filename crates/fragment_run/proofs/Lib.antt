@@ -1,0 +1,11 @@
+pub mod Reports
+pub mod Reading
+pub mod Promise
+pub mod WeightedSum
+pub mod Bonds
+pub mod Choosing
+pub mod Gaining
+pub mod Completing
+pub mod Rising
+pub mod Listing
+pub mod Fitting

@@ -1,0 +1,10 @@
+pub mod Settings
+pub mod Words
+pub mod Status
+pub mod ListForm
+pub mod Causes
+pub mod Sections
+pub mod Bodies
+pub mod ListPromise
+pub mod ListSteps
+pub mod Lister

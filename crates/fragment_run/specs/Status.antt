@@ -1,0 +1,35 @@
+-- The code and the line of each status.
+use Rattle.std.specs.Prelude.{◌++◌, ℕ, List, [], codes, decimal}
+use Rattle.mgf_reader.specs.Fault.{kind_text}
+use Rattle.frag_io.specs.declared.desk.Slot.{Slot}
+use Rattle.frag_io.specs.declared.desk.Slot.TheVariants.{Spectra, Profile, CertIn, Report, CertOut}
+use Rattle.fragment_run.specs.declared.status.Status.{Status}
+use Rattle.fragment_run.specs.declared.status.Status.TheVariants.{Done, Words, Memory, ReadFault, WriteFault, OpenFault, TooLong, MgfRefused}
+
+abbrev pub code_of : Status → ℕ
+code_of Done = 0
+code_of Words = 2
+code_of Memory = 3
+code_of (MgfRefused fault) = 4
+code_of (ReadFault slot) = 6
+code_of (WriteFault slot) = 7
+code_of (OpenFault slot) = 8
+code_of (TooLong slot) = 9
+
+abbrev pub slot_name_of : Slot → List ℕ
+slot_name_of Spectra = codes "spectra"
+slot_name_of Profile = codes "profile"
+slot_name_of CertIn = codes "cert-in"
+slot_name_of Report = codes "report"
+slot_name_of CertOut = codes "cert-out"
+
+-- the line that tells a status, with its line feed; a run that is done has none
+abbrev pub fault_line : Status → List ℕ
+fault_line Done = []
+fault_line Words = codes "words: not an order of this program\n"
+fault_line Memory = codes "memory: refused\n"
+fault_line (ReadFault slot) = codes "read fault: " ++ slot_name_of slot ++ codes "\n"
+fault_line (WriteFault slot) = codes "write fault: " ++ slot_name_of slot ++ codes "\n"
+fault_line (OpenFault slot) = codes "open fault: " ++ slot_name_of slot ++ codes "\n"
+fault_line (TooLong slot) = codes "too long: " ++ slot_name_of slot ++ codes "\n"
+fault_line (MgfRefused fault) = codes "mgf: line " ++ decimal fault.line ++ codes ": " ++ kind_text fault.kind ++ codes "\n"
