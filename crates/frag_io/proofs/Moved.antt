@@ -6,6 +6,7 @@ use Rattle.frag_io.specs.declared.whole.ReadWhole.{ReadWhole}
 use Rattle.frag_io.specs.declared.whole.ReadWhole.TheVariants.{TooLong}
 use Rattle.frag_io.specs.Desk.{appended, Moves}
 use Rattle.frag_io.specs.Whole.{ReadsWhole}
+use Rattle.frag_io.specs.declared.whole.TheConstants.{PIECE}
 
 -- two first parts of a text, one behind the other; the second is taken of all that follows the first
 pub appended-more : (told : Option (List ℕ)) (n m : ℕ) (bytes : List ℕ) → appended (appended told (take n bytes)) (take m (take (length bytes - n) (drop n bytes))) ≡ appended told (take (n + m) bytes)
@@ -27,9 +28,10 @@ pub ReadsWhole-part : (limit n : ℕ) (told left left' : Option (List ℕ)) (so_
     → Moves left left' buffer n
     → n ≤ length buffer
     → ((fault ≡ TooLong) ↔ (limit < length so_far + n))
+    → length so_far + n ≤ limit + PIECE
     → IfSome told (ReadsWhole limit left' (Err fault))
-ReadsWhole-part limit n None left left' so_far buffer fault had moved fits too_long = tt
-ReadsWhole-part limit n (Some text) left left' so_far buffer fault had moved fits too_long =
+ReadsWhole-part limit n None left left' so_far buffer fault had moved fits too_long stops = tt
+ReadsWhole-part limit n (Some text) left left' so_far buffer fault had moved fits too_long stops =
     let moves : Moves (Some had.0) left' buffer n = subst (λ (told : Option (List ℕ)). Moves told left' buffer n) had.1 moved in
     let long : length (so_far ++ take n buffer) ≡ length so_far + n = omega (arith, length-append so_far (take n buffer), length-take-le n buffer fits) in
     record {
@@ -39,4 +41,5 @@ ReadsWhole-part limit n (Some text) left left' so_far buffer fault had moved fit
       rest_is_left = moves.1;
       whole = tt;
       too_long = (λ is. omega (arith, long, too_long.0 cc), λ above. ap (λ (f : ReadWhole). Err f) (too_long.1 (omega (arith, long))));
+      stops = omega (arith, long, stops);
     }

@@ -8,7 +8,7 @@ use crate::{Desk, DeskFault, Slot};
 use std::alloc::{AllocError, Global};
 
 /// How many bytes a read asks for.
-const PIECE: usize = 65_536;
+pub const PIECE: usize = 65_536;
 
 /// Why a slot was not read whole.
 #[derive(Clone, Copy, Debug, PartialEq, Eq)]
@@ -46,12 +46,12 @@ impl From<AllocError> for ReadWhole {
 
 // Room for what one read brings.
 fn make_buffer(alloc: Global) -> Result<Vec<u8>, AllocError>
-    ensures { IfOk result (λ buffer. 0 < length buffer.items) }
+    ensures { IfOk result (λ buffer. length buffer.items ≡ PIECE) }
 {
     vec![in alloc; 0u8; PIECE]
 }
 
-/// All that a read slot has, read to its end, of at most `limit` bytes.
+/// All that a read slot has, read to its end, of at most `limit` bytes. Past the limit no more than 65,536 are read.
 pub fn read_whole<D: Desk>(
     alloc: Global,
     desk: &mut D,

@@ -44,6 +44,10 @@ pub record ListsText (text : List ℕ) (begun : Bool) (left report : Option (Lis
 abbrev pub OnlyListSlots : (Slot → Bool) → Type 0
 OnlyListSlots begun = (slot : Slot) → slot ≢ Spectra → slot ≢ Report → begun slot ≡ false
 
+-- the report was begun only where the text was
+abbrev pub TextFirst : (Slot → Bool) → Type 0
+TextFirst begun = begun Report ≡ true → begun Spectra ≡ true
+
 -- an answer to a text, or that there was no memory for one
 abbrev pub IsAnswer : Status → Type 0
 IsAnswer Done = ⊤
@@ -51,9 +55,10 @@ IsAnswer (MgfRefused fault) = ⊤
 IsAnswer Memory = ⊤
 IsAnswer status = ⊥
 
--- The promise of the command: what is owed to the text that the name gives, that no other slot is begun, and that a text within
--- the limit is answered where no fault is counted and memory is there.
+-- The promise of the command: what is owed to the text that the name gives, that no other slot is begun, and the report only behind
+-- the text, and that a text within the limit is answered where no fault is counted and memory is there.
 pub record ListPromise {D : Type 0} (begun : D → Slot → Bool) (gives : D → List ℕ → Option (List ℕ)) (left written : D → Slot → Option (List ℕ)) (faults : D → Slot → ℕ) (name : List ℕ) (before now : D) (status : Status) : Type 0 where
   pub lists : IfSome (gives before name) (λ text. ListsText text (begun now Spectra) (left now Spectra) (written now Report) status)
   pub others : OnlyListSlots (begun now)
+  pub opening : TextFirst (begun now)
   pub answers : (text : List ℕ) → gives before name ≡ Some text → length text ≤ MAX_TEXT → ((slot : Slot) → HasFault faults before now slot → ⊥) → IsAnswer status

@@ -5,7 +5,7 @@ ghost use Rattle.frag_io.specs.declared.desk.Slot.TheVariants.{Spectra, Report};
 ghost use Rattle.frag_io.specs.Slot.{Gains, IsRead, IsWritten, Same};
 ghost use Rattle.frag_io.specs.Desk.{appended, IsEmpty, Keeps};
 ghost use Rattle.fragment_run.specs.Causes.{Causes, HasFault};
-ghost use Rattle.fragment_run.specs.ListPromise.{ListPromise, ListsText, OnlyListSlots};
+ghost use Rattle.fragment_run.specs.ListPromise.{ListPromise, ListsText, OnlyListSlots, TextFirst};
 ghost use Rattle.fragment_run.specs.ListSteps.{IsOpenAnswer, IsReadAnswer, IsReady, ReadsText, status_of, write_status_of};
 
 use crate::report::report_of;
@@ -33,6 +33,7 @@ fn list_steps<D: Desk>(alloc: Global, name: &str, desk: &mut D) -> Result<(), St
     ensures causes { Causes D.begun D.finished D.written D.faults desk.old desk.new (status_of result) }
     ensures text { IfSome (D.gives desk.old name.now) (λ text. ListsText text (D.begun desk.new Spectra) (D.left desk.new Spectra) (D.written desk.new Report) (status_of result)) }
     ensures others { OnlyListSlots (D.begun desk.new) }
+    ensures opening { TextFirst (D.begun desk.new) }
     ensures an_order { status_of result ≢ Status.Words }
 {
     begin_slots(alloc, name, desk)?;
@@ -54,6 +55,7 @@ fn begin_slots<D: Desk>(alloc: Global, name: &str, desk: &mut D) -> Result<(), S
     ensures unbegun { OnErr result (D.begun desk.new Report ≡ false) }
     ensures text { OnErr result (D.begun desk.new Spectra ≡ true → D.left desk.new Spectra ≡ D.gives desk.old name.now) }
     ensures others { OnlyListSlots (D.begun desk.new) }
+    ensures opening { TextFirst (D.begun desk.new) }
     ensures counts { (slot : Slot) → D.faults desk.old slot ≤ D.faults desk.new slot }
 {
     begin_slot(alloc, desk, Slot::Spectra, name)?;

@@ -10,7 +10,7 @@ pub returns-then-n-limit-clause-whole : goal.returns-then-n-limit-clause-whole
 returns-then-n-limit-clause-whole g c =
     let desk = g.D.Desk in
     let slot = c.args.slot in
-    ReadsWhole-part c.args.limit c.in_ok-n.n (desk.left c.args.desk.now slot) (desk.left c.loop-buffer.desk slot) (desk.left c.read.new.self slot) c.loop-buffer.text.items c.read.new.buffer TooLong c.loop-buffer.invariant.left c.in_ok-n.ensures.moved (omega (arith, c.in_ok-n.ensures.fits, c.read.auto.buffer)) (λ _. omega arith, λ _. refl)
+    ReadsWhole-part c.args.limit c.in_ok-n.n (desk.left c.args.desk.now slot) (desk.left c.loop-buffer.desk slot) (desk.left c.read.new.self slot) c.loop-buffer.text.items c.read.new.buffer TooLong c.loop-buffer.invariant.left c.in_ok-n.ensures.moved (omega (arith, c.in_ok-n.ensures.fits, c.read.auto.buffer)) (λ _. omega arith, λ _. refl) (omega (arith, c.in_ok-n.ensures.fits, c.loop-buffer.invariant.short, c.loop-buffer.invariant.room))
 
 pub returns-in_err-extend_from_slice-clause-whole : goal.returns-in_err-extend_from_slice-clause-whole
 returns-in_err-extend_from_slice-clause-whole g c =
@@ -21,5 +21,5 @@ returns-in_err-extend_from_slice-clause-whole g c =
     let result = c.from_residual-in_err-extend_from_slice.result in
     let is : result ≡ Err OutOfMemory = Err-of result OutOfMemory c.from_residual-in_err-extend_from_slice.ensures.1 in
     let whole : IfSome told (ReadsWhole c.args.limit left (Err OutOfMemory)) =
-    ReadsWhole-part c.args.limit c.in_ok-n.n told (desk.left c.loop-buffer.desk slot) left c.loop-buffer.text.items c.read.new.buffer OutOfMemory c.loop-buffer.invariant.left c.in_ok-n.ensures.moved (omega (arith, c.in_ok-n.ensures.fits, c.read.auto.buffer)) (λ is. cc, λ above. absurd (omega arith)) in
+    ReadsWhole-part c.args.limit c.in_ok-n.n told (desk.left c.loop-buffer.desk slot) left c.loop-buffer.text.items c.read.new.buffer OutOfMemory c.loop-buffer.invariant.left c.in_ok-n.ensures.moved (omega (arith, c.in_ok-n.ensures.fits, c.read.auto.buffer)) (λ is. cc, λ above. absurd (omega arith)) (omega (arith, c.in_ok-n.ensures.fits, c.loop-buffer.invariant.short, c.loop-buffer.invariant.room)) in
     subst (λ (r : Result (Vec ℕ Global) ReadWhole). IfSome told (ReadsWhole c.args.limit left r)) (sym is) whole

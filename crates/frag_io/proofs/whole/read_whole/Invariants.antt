@@ -1,4 +1,5 @@
-use Rattle.std.proofs.Common.{◌≡◌, ◌≤◌, ◌-◌, ◌<◌, ◌++◌, ℕ, List, length, Some, IfSome}
+use Rattle.std.proofs.Common.{◌≡◌, ◌≤◌, ◌-◌, ◌++◌, ℕ, List, length, Some, IfSome}
+use Rattle.frag_io.specs.declared.whole.TheConstants.{PIECE}
 use Rattle.frag_io.specs.Slot.{Same}
 use Rattle.frag_io.specs.Desk.{Keeps}
 use Rattle.frag_io.proofs.whole.read_whole.Given as goal
@@ -6,7 +7,7 @@ use Rattle.frag_io.proofs.whole.read_whole.Given as goal
 abbrev pub invariant-loop-buffer : goal.invariant-loop-buffer
 invariant-loop-buffer g l = record {
   short : length l.text.items ≤ l.limit;
-  room : 0 < length l.buffer.items;
+  room : length l.buffer.items ≡ PIECE;
   left : IfSome (g.D.Desk.left l.fn.desk l.slot) (λ text. (rest : List ℕ) × (g.D.Desk.left l.desk l.slot ≡ Some rest) × (text ≡ l.text.items ++ rest));
   begun : Same (g.D.Desk.begun l.fn.desk) (g.D.Desk.begun l.desk);
   finished : Same (g.D.Desk.finished l.fn.desk) (g.D.Desk.finished l.desk);
