@@ -1,8 +1,10 @@
 -- Worked examples, computed.
-use Rattle.std.specs.Prelude.{◌≡◌, ℕ, length, pos, negsuc, List, [], ◌∷◌, ◌++◌, true, false, codes, replicate, refl}
+use Rattle.std.specs.Prelude.{◌≡◌, ℕ, length, pos, negsuc, List, [], ◌∷◌, ◌++◌, true, false, codes, replicate, refl, Ok, Err}
 use Rattle.std.specs.Fmt.{digits}
 use Rattle.element_table.specs.Formula.{empty_formula, loss_of, mass_of, union_of}
+use Rattle.element_table.specs.FormulaReading.{formula_of}
 use Rattle.element_table.specs.FormulaText.{formula_text}
+use Rattle.element_table.specs.declared.reading.FormulaFault.TheVariants.{NoFormula, UnknownElement, CountTooLarge}
 use Rattle.element_table.specs.Listed.{listed_of, passes}
 use Rattle.element_table.specs.Rule.{bond_coefficients, fragment_rule_of, rdbe2_of}
 use Rattle.element_table.specs.Window.{Window, half_width_of}
@@ -138,3 +140,32 @@ mass_of-phosphane = refl
 
 mass_of-hydrogen_sulfide : mass_of (2 ∷ 0 ∷ 0 ∷ 0 ∷ 0 ∷ 1 ∷ []) ≡ 339877212
 mass_of-hydrogen_sulfide = refl
+
+formula_of-methanol : formula_of (codes "CH3OH") ≡ Ok (hcno 4 1 0 1)
+unfolding formula_of
+formula_of-methanol = refl
+
+formula_of-carbons : formula_of (codes "C1000C999") ≡ Ok (hcno 0 1999 0 0)
+unfolding formula_of
+formula_of-carbons = refl
+
+formula_of-nothing : formula_of [] ≡ Err NoFormula
+unfolding formula_of
+formula_of-nothing = refl
+
+formula_of-leading_nought : formula_of (codes "C02") ≡ Err NoFormula
+unfolding formula_of
+formula_of-leading_nought = refl
+
+-- the form is looked at before the symbols, and the symbols before the counts
+formula_of-unknown_without_count : formula_of (codes "Xx0") ≡ Err NoFormula
+unfolding formula_of
+formula_of-unknown_without_count = refl
+
+formula_of-unknown : formula_of (codes "C2000Xx2") ≡ Err UnknownElement
+unfolding formula_of
+formula_of-unknown = refl
+
+formula_of-too_many : formula_of (codes "C2000") ≡ Err CountTooLarge
+unfolding formula_of
+formula_of-too_many = refl

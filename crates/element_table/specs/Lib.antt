@@ -4,3 +4,5 @@ pub mod FormulaText
 pub mod Window
 pub mod Rule
 pub mod Listed
+pub mod FormulaReading
+pub mod FormulaList

@@ -1,5 +1,5 @@
 -- The rules that a formula may have to pass.
-use Rattle.std.specs.Prelude.{◌≡◌, ◌≢◌, ◌-◌, ◌++◌, ℕ, ℤ, pos, ◌+ℤ◌, ◌-ℤ◌, ◌*ℤ◌, ◌≤ℤ◌, int_rem, List, ◌∷◌, length, map, replicate, ⊤}
+use Rattle.std.specs.Prelude.{◌≡◌, ◌≢◌, ◌-◌, ◌++◌, ℕ, ℤ, pos, ◌+ℤ◌, ◌-ℤ◌, ◌*ℤ◌, ◌≤ℤ◌, neg_ℤ, int_rem, List, ◌∷◌, length, map, replicate, slice_index_or, ⊤}
 use Rattle.std.specs.List.{AllByRecursion}
 use Rattle.element_table.specs.Elements.{valences}
 use Rattle.element_table.specs.declared.elements.TheConstants.{ELEMENTS, PLACES}
@@ -41,10 +41,24 @@ Passes rules counts = AllByRecursion (λ rule. Holds rule counts) rules
 abbrev pub bond_coefficients : List ℤ
 bond_coefficients = map (λ valence. pos valence -ℤ pos 2) valences ++ replicate (PLACES - length ELEMENTS) (pos 0)
 
--- twice the number of rings and double bonds
+-- twice the ring and double bond equivalent, which is the number of rings and double bonds
 abbrev pub rdbe2_of : List ℕ → ℤ
 rdbe2_of counts = pos 2 +ℤ linear_sum bond_coefficients counts
 
 -- the rule that says rdbe2_of counts ≥ bound
 abbrev pub fragment_rule_of : ℤ → Rule
 fragment_rule_of bound = record { coefficients = bond_coefficients; constant = pos 2 -ℤ bound; parity = any }
+
+-- the rule that says that rdbe2_of counts is even and at least 0
+abbrev pub neutral_rule_of : Rule
+neutral_rule_of = record { coefficients = bond_coefficients; constant = pos 2; parity = even }
+
+-- a number is at most so far from 0
+abbrev pub IsNearZero : ℕ → ℤ → Type 0
+IsNearZero most z = (neg_ℤ (pos most) ≤ℤ z) × (z ≤ℤ pos most)
+
+-- what every rule is that a program holds: a coefficient for each place, none too far from 0, and a constant that is not either
+pub record IsRule (rule : Rule) : Type 0 where
+  pub places : length rule.coefficients ≡ PLACES
+  pub coefficients : (place : ℕ) → IsNearZero 1000 (slice_index_or rule.coefficients place (pos 0))
+  pub constant : IsNearZero 1000000 rule.constant

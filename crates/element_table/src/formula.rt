@@ -33,6 +33,14 @@ impl Formula {
         }
     }
 
+    /// The formula of these counts.
+    pub(crate) fn of_counts(counts: [u16; PLACES]) -> Formula
+        requires { IsFormula counts }
+        ensures { result ≡ counts }
+    {
+        Formula { counts }
+    }
+
     /// Whether there is no atom at all.
     pub(crate) fn is_empty(&self) -> bool
         ensures { result ≡ list_all (λ count. count == 0) self.now }

@@ -1,11 +1,13 @@
 //! Laws of the definitions, which a check of this crate proves.
-ghost use Rattle.std.specs.Prelude.{◌≡◌, ◌≢◌, ◌↔◌, ℕ, IsTrue, List, length};
+ghost use Rattle.std.specs.Prelude.{◌≡◌, ◌≢◌, ◌↔◌, ◌≤ℤ◌, ℕ, ℤ, pos, IsTrue, List, Ok, length};
 ghost use Rattle.std.specs.List.{AllPairs};
 ghost use Rattle.std.specs.List.Sorted.{IsPermutation, IsSorted};
 ghost use Rattle.std.specs.declared.cmp.Ordering.TheVariants.{Less};
-ghost use Rattle.element_table.specs.Formula.{formula_cmp};
+ghost use Rattle.element_table.specs.Formula.{IsFormula, formula_cmp};
+ghost use Rattle.element_table.specs.FormulaReading.{formula_of};
+ghost use Rattle.element_table.specs.FormulaText.{formula_text};
 ghost use Rattle.element_table.specs.Listed.{Listed, is_in_window, listed_of, passes};
-ghost use Rattle.element_table.specs.Rule.{Passes, Rule};
+ghost use Rattle.element_table.specs.Rule.{HasParity, Holds, Passes, Rule, even, fragment_rule_of, neutral_rule_of, rdbe2_of};
 ghost use Rattle.element_table.specs.Window.{InWindow, Window};
 
 use crate::elements::PLACES;
@@ -14,6 +16,13 @@ use crate::elements::PLACES;
 pub fn the_tests_decide()
     ensures window { (window : Window) (counts : List ℕ) → IsTrue (is_in_window window counts) ↔ InWindow window counts }
     ensures rules { (rules : List Rule) (counts : List ℕ) → IsTrue (passes rules counts) ↔ Passes rules counts }
+{}
+
+/// The rule of a fragment holds exactly where twice the ring and double bond equivalent is at least the bound, and the rule of
+/// a candidate exactly where it is even and at least 0.
+pub fn the_rules_speak_of_bonds()
+    ensures fragment { (bound : ℤ) (counts : List ℕ) → Holds (fragment_rule_of bound) counts ↔ (bound ≤ℤ rdbe2_of counts) }
+    ensures neutral { (counts : List ℕ) → Holds neutral_rule_of counts ↔ ((pos 0 ≤ℤ rdbe2_of counts) × HasParity even (rdbe2_of counts)) }
 {}
 
 /// The list of a window is the filter of all count lists within the limits, and there is no other such list.
@@ -28,4 +37,9 @@ pub fn the_list_is_a_filter()
 pub fn sorted_formulas_rise()
     ensures { (formulas sorted : List (List ℕ)) → AllPairs (λ first later. first ≢ later) formulas → IsPermutation formulas sorted
         → IsSorted formula_cmp sorted → AllPairs (λ first later. formula_cmp first later ≡ Less) sorted }
+{}
+
+/// Reading gives back every formula that was printed.
+pub fn reading_undoes_printing()
+    ensures { (counts : List ℕ) → IsFormula counts → formula_of (formula_text counts) ≡ Ok counts }
 {}

@@ -1,14 +1,21 @@
-//! Molecular formulas over the element table: counts, masses, order and spelling.
+//! Molecular formulas over the element table: counts, masses, order, spelling and reading; and the formulas of one peak.
 #![tactic(auto)]
 
 mod elements;
 mod formula;
+mod formula_list;
 mod laws;
+mod reading;
 mod text;
 
 pub use elements::{ELEMENTS, MAX_COUNT, PLACES};
 pub use formula::Formula;
-pub use laws::{sorted_formulas_rise, the_list_is_a_filter, the_tests_decide};
+pub use formula_list::{FormulaList, Formulas};
+pub use laws::{
+    reading_undoes_printing, sorted_formulas_rise, the_list_is_a_filter, the_rules_speak_of_bonds,
+    the_tests_decide,
+};
+pub use reading::{FormulaFault, read_formula};
 pub use text::{FormulaText, MAX_TEXT, print_formula};
 
 #[cfg(test)]

@@ -1,8 +1,11 @@
 //! Worked examples of formulas.
 use crate::{
-    Formula, MAX_COUNT, print_formula, sorted_formulas_rise, the_list_is_a_filter, the_tests_decide,
+    ELEMENTS, Formula, FormulaFault, FormulaList, Formulas, MAX_COUNT, print_formula, read_formula,
+    reading_undoes_printing, sorted_formulas_rise, the_list_is_a_filter, the_rules_speak_of_bonds,
+    the_tests_decide,
 };
 use std::cmp::Ordering;
+use std::test::Fail;
 
 fn water() -> Formula {
     Formula::empty().with(0, 2).with(3, 1)
@@ -18,6 +21,43 @@ fn caffeine() -> Formula {
         .with(0, 10)
         .with(2, 4)
         .with(3, 2)
+}
+
+#[test]
+fn knows_the_elements(rt: HostRuntime) {
+    let table: [(&str, u64, u8); 11] = [
+        ("H", 10_078_250, 1),
+        ("C", 120_000_000, 4),
+        ("N", 140_030_740, 3),
+        ("O", 159_949_146, 2),
+        ("P", 309_737_620, 3),
+        ("S", 319_720_712, 2),
+        ("F", 189_984_032, 1),
+        ("Cl", 349_688_527, 1),
+        ("Br", 789_183_376, 1),
+        ("I", 1_269_044_719, 1),
+        ("Si", 279_769_265, 4),
+    ];
+    for (place, (symbol, mass, valence)) in table.iter().enumerate() {
+        let atom = Formula::empty().with(place, 1);
+        assert_eq!(rt; print_formula(&atom).items(), symbol.as_bytes());
+        assert_eq!(rt; atom.mass(), *mass, "of {symbol}");
+        assert_eq!(rt; ELEMENTS[place].2, *valence, "of {symbol}");
+    }
+}
+
+#[test]
+fn keeps_the_formulas_of_a_peak(rt: HostRuntime) -> Result<(), Fail> {
+    let mut formulas = Vec::new(rt.alloc());
+    formulas.push(water())?;
+    formulas.push(glucose())?;
+    let list = FormulaList {
+        mz: 190_178_410,
+        intensity: 0,
+        formulas: Formulas::of(formulas),
+    };
+    assert_eq!(rt; list.formulas.items(), [water(), glucose()].as_slice());
+    Ok(())
 }
 
 #[test]
@@ -48,6 +88,72 @@ fn spells_formulas(rt: HostRuntime) {
             text.as_bytes(),
             "at {text}"
         );
+    }
+}
+
+#[test]
+fn reads_formulas(rt: HostRuntime) {
+    let carbon = Formula::empty().with(1, 1);
+    let cases: [(&str, Formula); 10] = [
+        ("-", Formula::empty()),
+        ("CH3OH", carbon.with(0, 4).with(3, 1)),
+        ("C6H12O6", glucose()),
+        ("Cl2", Formula::empty().with(7, 2)),
+        ("ClC", carbon.with(7, 1)),
+        ("C1999", Formula::empty().with(1, 1999)),
+        ("C1000C999", Formula::empty().with(1, 1999)),
+        ("OCO", carbon.with(3, 2)),
+        (
+            "SiIBr10I",
+            Formula::empty().with(10, 1).with(9, 2).with(8, 10),
+        ),
+        (
+            "HPF6SN",
+            Formula::empty()
+                .with(0, 1)
+                .with(4, 1)
+                .with(6, 6)
+                .with(5, 1)
+                .with(2, 1),
+        ),
+    ];
+    for (text, formula) in cases {
+        assert_eq!(rt; read_formula(text.as_bytes()), Ok(formula), "at {text}");
+    }
+}
+
+#[test]
+fn refuses_other_texts(rt: HostRuntime) {
+    let cases: [(&str, FormulaFault); 26] = [
+        ("", FormulaFault::NoFormula),
+        ("C02", FormulaFault::NoFormula),
+        ("C0", FormulaFault::NoFormula),
+        ("Xx0", FormulaFault::NoFormula),
+        ("c", FormulaFault::NoFormula),
+        ("2C", FormulaFault::NoFormula),
+        ("C-", FormulaFault::NoFormula),
+        ("-C", FormulaFault::NoFormula),
+        ("--", FormulaFault::NoFormula),
+        ("C H", FormulaFault::NoFormula),
+        (" C", FormulaFault::NoFormula),
+        ("Cll", FormulaFault::NoFormula),
+        ("Xxx2", FormulaFault::NoFormula),
+        ("C2h", FormulaFault::NoFormula),
+        ("C1/2", FormulaFault::NoFormula),
+        ("C1:", FormulaFault::NoFormula),
+        ("Xx2", FormulaFault::UnknownElement),
+        ("Na", FormulaFault::UnknownElement),
+        ("CL", FormulaFault::UnknownElement),
+        ("C2000Na", FormulaFault::UnknownElement),
+        ("CXx2000C", FormulaFault::UnknownElement),
+        ("NaC01", FormulaFault::NoFormula),
+        ("C2000", FormulaFault::CountTooLarge),
+        ("C1000C1000", FormulaFault::CountTooLarge),
+        ("C99999999999999999999999", FormulaFault::CountTooLarge),
+        ("C65537HC65535", FormulaFault::CountTooLarge),
+    ];
+    for (text, fault) in cases {
+        assert_eq!(rt; read_formula(text.as_bytes()), Err(fault), "at {text}");
     }
 }
 
@@ -85,6 +191,8 @@ fn orders_by_hydrogen_first(rt: HostRuntime) {
 #[test]
 fn states_laws() {
     the_tests_decide();
+    the_rules_speak_of_bonds();
     the_list_is_a_filter();
     sorted_formulas_rise();
+    reading_undoes_printing();
 }

@@ -1,0 +1,52 @@
+//! The formulas of one peak.
+ghost use Rattle.std.specs.Prelude.{◌≡◌};
+
+use crate::formula::Formula;
+use std::marker::Model;
+
+/// A list of formulas.
+#[derive(Debug, Drop)]
+pub struct Formulas {
+    items: Vec<Formula>,
+}
+
+impl Model for Formulas {
+    ghost use Rattle.std.specs.Prelude.{List, ℕ};
+
+    ghost Value = { List (List ℕ) };
+
+    ghost view = { λ formulas. formulas.items.items };
+}
+
+impl Formulas {
+    /// The list of these formulas.
+    pub fn of(items: Vec<Formula>) -> Formulas
+        ensures { result ≡ items.items }
+    {
+        Formulas { items }
+    }
+
+    /// The formulas.
+    pub fn items(&self) -> &[Formula]
+        ensures { result.now ≡ self.now }
+    {
+        &self.items
+    }
+}
+
+/// The formulas of one peak, with its m/z in units of 10^-7 and its intensity in units of 10^-6. The list of a precursor has
+/// the intensity 0.
+#[derive(Debug, Drop)]
+pub struct FormulaList {
+    pub mz: u64,
+    pub intensity: u64,
+    pub formulas: Formulas,
+}
+
+impl Model for FormulaList {
+    ghost use Rattle.element_table.specs.FormulaList.{FormulaListValue};
+
+    ghost Value = { FormulaListValue };
+
+    ghost view = { λ list. record { mz = list.mz; intensity = list.intensity; formulas = list.formulas } };
+}
