@@ -1,6 +1,5 @@
 //! The adduct table.
 ghost use Rattle.std.specs.Prelude.{◌≡◌, ◌≤◌, ◌^◌, ◌-ℤ◌, pos};
-ghost use Rattle.adducts.specs.Adduct.{IsNearZero};
 ghost use Rattle.adducts.specs.Table.{adduct_named, extra_of};
 
 use element_table::Formula;
@@ -30,7 +29,8 @@ pub struct Adduct {
 }
 
 impl Model for Adduct {
-    ghost use Rattle.adducts.specs.Adduct.{AdductValue, IsNearZero};
+    ghost use Rattle.element_table.specs.Rule.{IsNearZero};
+    ghost use Rattle.adducts.specs.Adduct.{AdductValue};
 
     ghost Value = { AdductValue };
 

@@ -1,7 +1,7 @@
 //! Whether a spectrum can be used.
-ghost use Rattle.std.specs.Prelude.{◌≡◌};
+ghost use Rattle.std.specs.Prelude.{◌≡◌, ◌≤◌, ◌^◌, ◌-ℤ◌, ◌≤ℤ◌, ℕ, pos};
 ghost use Rattle.adducts.specs.Charges.{agrees, charges_fit, is_carried};
-ghost use Rattle.adducts.specs.Fit.{fit_of};
+ghost use Rattle.adducts.specs.Fit.{fit_of, greatest_neutral_mass};
 
 use crate::adduct::neutral;
 use crate::choice::Choice;
@@ -13,7 +13,9 @@ pub const GREATEST_NEUTRAL_MASS: i64 = 20_000_000_000;
 
 /// Whether a spectrum can be used under a choice. Of several reasons against it the first is told.
 pub fn fit(spectrum: &Spectrum, choice: &Choice) -> Fit
-    ensures { result ≡ fit_of spectrum.now choice.now }
+    ensures fit { result ≡ fit_of spectrum.now choice.now }
+    ensures measured { (mz : ℕ) → result ≡ Fit.Usable mz → mz ≤ 10 ^ 18 }
+    ensures light { (mz : ℕ) → result ≡ Fit.Usable mz → (pos mz -ℤ choice.now.adduct.shift) ≤ℤ greatest_neutral_mass }
 {
     let Some(mz) = spectrum.precursor else {
         return Fit::NoPrecursor;

@@ -1,4 +1,4 @@
-//! Whether a spectrum can be used.
+//! What comes of asking whether a spectrum can be used.
 
 /// Whether a spectrum can be used under a choice: the first reason against it, or the m/z of its precursor in units of
 /// 10^-7.

@@ -1,12 +1,12 @@
 //! The selected peaks of a spectrum.
 ghost use Rattle.std.specs.Prelude.{◌≡◌, ◌≤◌, ◌^◌, ℕ, [], IfOk};
-ghost use Rattle.std.specs.List.{filter};
+ghost use Rattle.std.specs.List.{All, filter};
 ghost use Rattle.std.specs.List.Sorted.{IsPermutation, IsSorted};
 ghost use Rattle.adducts.specs.Choosing.{chosen_from, interval_of};
 ghost use Rattle.adducts.specs.Choosing as choosing;
 ghost use Rattle.adducts.specs.Fit.{IsUsable, fit_of};
 ghost use Rattle.adducts.specs.declared.outcome.Fit.TheVariants.{Usable};
-ghost use Rattle.adducts.specs.Selected.{Selected, has_intensity, rank_cmp};
+ghost use Rattle.adducts.specs.Selected.{LiesBelow, Selected, has_intensity, rank_cmp};
 
 use crate::choice::{Choice, half_width};
 use mgf_reader::{Peak, Spectrum};
@@ -30,7 +30,8 @@ pub fn select_peaks(
     choice: &Choice,
 ) -> Result<Vec<Peak>, AllocError>
     requires { IsUsable (fit_of spectrum.now choice.now) }
-    ensures { (mz : ℕ) → fit_of spectrum.now choice.now ≡ Usable mz → IfOk result (λ selected. Selected choice.now mz spectrum.now.peaks selected.items) }
+    ensures selected { (mz : ℕ) → fit_of spectrum.now choice.now ≡ Usable mz → IfOk result (λ selected. Selected choice.now mz spectrum.now.peaks selected.items) }
+    ensures below { (mz : ℕ) → fit_of spectrum.now choice.now ≡ Usable mz → IfOk result (λ selected. All (λ peak. LiesBelow choice.now peak.mz mz) selected.items) }
 {
     let Some(precursor) = spectrum.precursor else {
         unreachable!();
