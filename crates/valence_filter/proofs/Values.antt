@@ -1,0 +1,39 @@
+-- A rule's number, place by place.
+use Rattle.std.proofs.Common.{◌≡◌, ◌≤◌, ◌<◌, ◌+◌, ◌*◌, ℕ, zero, suc, ℤ, pos, negsuc, ◌+ℤ◌, ◌*ℤ◌, List, [], ◌∷◌, length, take, get_or, arith, add-one}
+use Rattle.std.proofs.lemmas.Int.{ints}
+use Rattle.std.proofs.lemmas.Nat.{mul-le}
+use Rattle.element_table.specs.Rule.{IsNearZero, linear_sum}
+
+zero_last : (x : ℤ) → x +ℤ pos 0 ≡ pos 0 +ℤ x
+zero_last x = omega (arith, ints)
+
+regroup : (a b c d : ℤ) → b ≡ c +ℤ d → a +ℤ b ≡ (a +ℤ c) +ℤ d
+regroup a b c d is = omega (arith, ints)
+
+-- what a further place adds
+pub linear_sum-more : (coefficients : List ℤ) (counts : List ℕ) (i : ℕ) → i < length coefficients → i < length counts
+    → linear_sum (take (suc i) coefficients) counts ≡ linear_sum (take i coefficients) counts +ℤ (get_or coefficients i (pos 0) *ℤ pos (get_or counts i 0))
+linear_sum-more (coefficient ∷ coefficients) (count ∷ counts) zero a b = zero_last (coefficient *ℤ pos count)
+linear_sum-more (coefficient ∷ coefficients) (count ∷ counts) (suc i) a b = regroup _ _ _ _ (linear_sum-more coefficients counts i (omega arith) (omega arith))
+linear_sum-more [] counts i a b = absurd (omega arith)
+linear_sum-more (coefficient ∷ coefficients) [] i a b = absurd (omega arith)
+
+-- no product of a coefficient and a count is far from 0
+pub near-product : (coefficient : ℤ) (count : ℕ) → IsNearZero 1000 coefficient → count ≤ 1999 → IsNearZero (1000 * 1999) (coefficient *ℤ pos count)
+near-product (pos n) count near capped =
+    let low : n ≤ 1000 = omega (arith, ints) in
+    let bound : n * count ≤ 1000 * 1999 = mul-le _ _ _ _ low capped in
+    (omega (arith, ints), omega (arith, ints))
+near-product (negsuc n) count near capped =
+    let low : suc n ≤ 1000 = omega (arith, ints) in
+    let bound : suc n * count ≤ 1000 * 1999 = mul-le _ _ _ _ low capped in
+    (omega (arith, ints), omega (arith, ints))
+
+-- the number so far, at one more place
+pub value-more : (constant value added : ℤ) (coefficients : List ℤ) (counts : List ℕ) (place count : ℕ) → place < length coefficients → place < length counts
+    → value ≡ constant +ℤ linear_sum (take place coefficients) counts → added ≡ get_or coefficients place (pos 0) *ℤ pos count → count ≡ get_or counts place 0
+    → value +ℤ added ≡ constant +ℤ linear_sum (take (place + 1) coefficients) counts
+value-more constant value added coefficients counts place count in_coefficients in_counts so_far is_added is_count =
+    let more = linear_sum-more coefficients counts place in_coefficients in_counts in
+    let is : added ≡ get_or coefficients place (pos 0) *ℤ pos (get_or counts place 0) = cc in
+    rw (add-one, more, is, so_far) (omega (arith, ints))
