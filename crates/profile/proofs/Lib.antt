@@ -1,0 +1,12 @@
+pub mod KindLaws
+pub mod ElementLaws
+pub mod Faults
+pub mod FineLaws
+pub mod ElementRange
+pub mod ElementCast
+pub mod LimitLaws
+pub mod RuleLaws
+pub mod SettingLaws
+pub mod AnswerLaws
+pub mod Examples
+pub mod ProfileLaws

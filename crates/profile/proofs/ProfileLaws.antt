@@ -1,0 +1,49 @@
+-- What is read is a profile.
+use Rattle.std.proofs.Common.{◌≡◌, ℕ, List, [], true, Option, Some, None, Ok, codes, nat_lt, refl, subst, arith, ◌++◌}
+use Rattle.std.specs.Prelude.{option_and_then}
+use Rattle.std.specs.List.{list_any}
+use Rattle.std.specs.Option.{option_map_or}
+use Rattle.toml.specs.Data.{Members, as_table, get_member}
+use Rattle.profile.specs.Profile.{ProfileValue, IsProfile, default_limits}
+use Rattle.profile.specs.Form.{whole}
+use Rattle.profile.specs.Fine.{IsFine}
+use Rattle.profile.specs.Places.{places_of}
+use Rattle.profile.specs.ProfileOf.{profile_in, profile_of, table_of, unless_refused}
+use Rattle.profile.specs.Refusal.{refusal_of}
+use Rattle.profile.specs.Values.{limits_of, profile_value_of}
+use Rattle.profile.specs.declared.fault.ProfileFault.{ProfileFault}
+use Rattle.profile.proofs.FineLaws.{fine_table}
+use Rattle.profile.proofs.LimitLaws.{some_limit_of}
+use Rattle.profile.proofs.SettingLaws.{setting}
+
+some_element : (entries : Members) (found : Option Members) → IsFine whole entries → option_and_then as_table (get_member (codes "elements") entries) ≡ found
+    → list_any (nat_lt 0) (option_map_or limits_of found default_limits) ≡ true
+some_element entries None fine is = refl
+some_element entries (Some elements) fine is = some_limit_of (fine.before ++ codes "elements") elements (fine_table whole entries (codes "elements") elements fine refl is).0
+
+-- of a table of which nothing is refused
+pub is_profile : (entries : Members) → IsFine whole entries → IsProfile (profile_value_of entries)
+is_profile entries fine =
+    let peaks = setting entries (codes "peaks") 1 12 12 fine refl (omega arith) (omega arith) (omega arith) in
+    record {
+      ppm = (setting entries (codes "ppm") 0 100 10 fine refl (omega arith) (omega arith) (omega arith)).to;
+      abs = (setting entries (codes "abs") 0 2000000 10000 fine refl (omega arith) (omega arith) (omega arith)).to;
+      some_peak = peaks.from;
+      peaks = peaks.to;
+      budget = (setting entries (codes "budget") 0 10000 200 fine refl (omega arith) (omega arith) (omega arith)).to;
+      some_element = some_element entries (option_and_then as_table (get_member (codes "elements") entries)) fine refl;
+    }
+
+by_refusal : (entries : Members) (found : Option ProfileFault) (profile : ProfileValue) → refusal_of (places_of entries) ≡ found → unless_refused found (profile_value_of entries) ≡ Ok profile → IsProfile profile
+by_refusal entries None profile fine is =
+    let same : profile_value_of entries ≡ profile = cc in
+    subst IsProfile same (is_profile entries (record { before = []; nothing = fine }))
+by_refusal entries (Some fault) profile fine is = cc
+
+by_table : (found : Option Members) (profile : ProfileValue) → profile_in found ≡ Ok profile → IsProfile profile
+by_table None profile is = cc
+by_table (Some entries) profile is = by_refusal entries (refusal_of (places_of entries)) profile refl is
+
+-- of any bytes
+pub what_is_read : (bytes : List ℕ) (profile : ProfileValue) → profile_of bytes ≡ Ok profile → IsProfile profile
+what_is_read bytes profile is = by_table (table_of bytes) profile is

@@ -1,0 +1,29 @@
+use Rattle.std.proofs.Common.{codes, refl, arith}
+use Rattle.toml.specs.View.{table_view}
+use Rattle.profile.proofs.ProfileLaws.{is_profile}
+use Rattle.profile.proofs.SettingLaws.{setting}
+use Rattle.profile.proofs.values.profile_in.Goals as goal
+
+pub count_at-requires : goal.count_at-requires
+count_at-requires c = (setting (table_view c.args.table.now) (codes "ppm") 0 100 10 c.requires refl (omega arith) (omega arith) (omega arith)).fits
+
+pub count_at-requires-2 : goal.count_at-requires-2
+count_at-requires-2 c = (setting (table_view c.args.table.now) (codes "abs") 0 2000000 10000 c.requires refl (omega arith) (omega arith) (omega arith)).fits
+
+pub count_at-requires-3 : goal.count_at-requires-3
+count_at-requires-3 c = (setting (table_view c.args.table.now) (codes "peaks") 1 12 12 c.requires refl (omega arith) (omega arith) (omega arith)).fits
+
+pub count_at-requires-4 : goal.count_at-requires-4
+count_at-requires-4 c = (setting (table_view c.args.table.now) (codes "budget") 0 10000 200 c.requires refl (omega arith) (omega arith) (omega arith)).fits
+
+pub invariant_of-result : goal.invariant_of-result
+invariant_of-result c =
+    let known = is_profile (table_view c.args.table.now) c.requires in
+    record {
+      ppm = rw c.count_at.ensures known.ppm;
+      abs = rw c.count_at-2.ensures known.abs;
+      some_peak = rw c.count_at-3.ensures known.some_peak;
+      peaks = rw c.count_at-3.ensures known.peaks;
+      budget = rw c.count_at-4.ensures known.budget;
+      some_element = rw c.limits_in.ensures known.some_element;
+    }

@@ -1,0 +1,10 @@
+pub mod Profile
+pub mod Table
+pub mod Form
+pub mod Places
+pub mod Refusal
+pub mod Values
+pub mod ProfileOf
+pub mod Fine
+pub mod Seen
+pub mod Searched

@@ -1,0 +1,29 @@
+-- A profile as plain values, and the default one.
+use Rattle.std.specs.Prelude.{◌≤◌, ◌++◌, ℕ, List, [], ◌∷◌, IsTrue, nat_lt, replicate}
+use Rattle.std.specs.List.{list_any}
+use Rattle.element_table.specs.Rule.{Rule}
+
+pub record ProfileValue : Type 0 where
+  pub ppm : ℕ
+  pub abs : ℕ
+  pub peaks : ℕ
+  pub budget : ℕ
+  pub limits : List ℕ
+  pub rules : List Rule
+  pub neutral_rules : List Rule
+
+-- what every profile is: its numbers are in their ranges, and some element may stand in a formula
+pub record IsProfile (profile : ProfileValue) : Type 0 where
+  pub ppm : profile.ppm ≤ 100
+  pub abs : profile.abs ≤ 2000000
+  pub some_peak : 1 ≤ profile.peaks
+  pub peaks : profile.peaks ≤ 12
+  pub budget : profile.budget ≤ 10000
+  pub some_element : IsTrue (list_any (nat_lt 0) profile.limits)
+
+-- H 200, C 100, N 20, O 40, P 3 and S 3
+abbrev pub default_limits : List ℕ
+default_limits = (200 ∷ 100 ∷ 20 ∷ 40 ∷ 3 ∷ 3 ∷ []) ++ replicate 10 0
+
+abbrev pub default_profile_value : ProfileValue
+default_profile_value = record { ppm = 10; abs = 10000; peaks = 12; budget = 200; limits = default_limits; rules = []; neutral_rules = [] }

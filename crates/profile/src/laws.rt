@@ -1,0 +1,14 @@
+//! Laws of the definitions, which a check of this crate proves.
+ghost use Rattle.std.specs.Prelude.{◌≡◌, ℕ, List, [], Ok};
+ghost use Rattle.profile.specs.Profile.{IsProfile, ProfileValue, default_profile_value};
+ghost use Rattle.profile.specs.ProfileOf.{profile_of};
+
+/// A text that says nothing gives the default profile.
+pub fn an_empty_text_gives_the_default()
+    ensures { profile_of [] ≡ Ok default_profile_value }
+{}
+
+/// The numbers of every profile that a text gives are in their ranges, and one of its limits at least is positive.
+pub fn what_is_read_is_in_range()
+    ensures { (bytes : List ℕ) (profile : ProfileValue) → profile_of bytes ≡ Ok profile → IsProfile profile }
+{}
