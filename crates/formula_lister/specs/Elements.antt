@@ -1,0 +1,40 @@
+-- The elements that are counted, one after another.
+use Rattle.std.specs.Prelude.{◌≡◌, ◌≢◌, ◌≤◌, ◌<◌, ◌+◌, ◌*◌, ℕ, List, [], ◌∷◌, length, slice_index}
+use Rattle.std.specs.List.{AllByRecursion}
+use Rattle.element_table.specs.declared.elements.TheConstants.{ELEMENTS, MAX_COUNT}
+use Rattle.element_table.specs.Elements.{masses}
+use Rattle.element_table.specs.Window.{greatest_half_width}
+use Rattle.formula_lister.specs.declared.element.Element.{Element}
+
+-- the greatest mass that counts of these elements have together
+abbrev pub reach_of : List Element → ℕ
+reach_of [] = 0
+reach_of (element ∷ elements) = element.limit * element.mass + reach_of elements
+
+-- an element of the table, with its mass; every atom is heavier than a window is wide
+pub record IsKnown (element : Element) : Type 0 where
+  pub place : element.place < length ELEMENTS
+  pub weighed : element.mass ≡ slice_index masses element.place
+  pub heavy : 2 * greatest_half_width < element.mass
+  pub light : element.mass ≤ 1269044719
+  pub capped : element.limit ≤ MAX_COUNT
+  pub reach : element.after ≤ 10 * (1999 * 1269044719)
+
+-- an element with its limit, counted before others
+pub record IsFirst (limits : List ℕ) (element : Element) (others : List Element) : Type 0 where
+  pub known : IsKnown element
+  pub limited : element.limit ≡ slice_index limits element.place
+  pub reach : element.after ≡ reach_of others
+  pub falling : AllByRecursion (λ other. other.place < element.place) others
+
+abbrev pub AreElements : List ℕ → List Element → Type 0
+AreElements limits [] = Unit {0}
+AreElements limits (element ∷ others) = IsFirst limits element others × AreElements limits others
+
+-- none of the elements stands at the place
+abbrev pub IsUncounted : List Element → ℕ → Type 0
+IsUncounted elements place = AllByRecursion (λ element. element.place ≢ place) elements
+
+-- no atom of these elements is chosen
+abbrev pub NoneChosen : List Element → List ℕ → Type 0
+NoneChosen elements counts = AllByRecursion (λ element. slice_index counts element.place ≡ 0) elements

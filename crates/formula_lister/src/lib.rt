@@ -1,0 +1,13 @@
+//! The list of a window: exactly the formulas in it that the limits and a sieve allow.
+#![tactic(auto)]
+
+mod chosen;
+mod counting;
+mod element;
+mod lister;
+mod outcome;
+#[cfg(test)]
+mod tests;
+
+pub use lister::list;
+pub use outcome::{ListFault, MOST_FORMULAS};
