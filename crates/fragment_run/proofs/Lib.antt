@@ -1,11 +1,7 @@
 pub mod Reports
 pub mod Reading
 pub mod Promise
-pub mod WeightedSum
-pub mod Bonds
-pub mod Choosing
-pub mod Gaining
-pub mod Completing
-pub mod Rising
-pub mod Listing
-pub mod Fitting
+pub mod Below
+pub mod Profiles
+pub mod Composing
+pub mod OptionWords

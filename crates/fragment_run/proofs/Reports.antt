@@ -11,6 +11,7 @@ use Rattle.mgf_reader.specs.Spectrum.{SpectrumValue}
 use Rattle.mgf_reader.specs.Grammar.{Reads}
 use Rattle.mgf_reader.specs.Stands.{ReaderValue, Stands, Answers, answer_of}
 use Rattle.fragment_run.specs.ListForm.{Section, section_lines, ending_line}
+use Rattle.fragment_run.specs.Settings.{SettingsValue}
 use Rattle.fragment_run.specs.Sections.{AreSections, IsSection, IsReport, IsReportPart}
 
 -- two texts with the same answer have the same fault
@@ -39,64 +40,64 @@ read_to_end before middle after text fed ended fault new feeds breaks ends is =
     subst (λ f. Reads text after.waiting f) (same_fault answers.fault fault (sym answers.answer ∙ is)) answers.reads
 
 -- sections of some spectra, and one more of the next
-AreSections-push : (spectra : List SpectrumValue) (sections : List Section) (spectrum : SpectrumValue) (section : Section)
-    → AreSections spectra sections → IsSection spectrum section → AreSections (spectra ++ spectrum ∷ []) (sections ++ section ∷ [])
-AreSections-push [] [] spectrum section are is = (is, tt)
-AreSections-push [] (other ∷ others) spectrum section are is = absurd are
-AreSections-push (first ∷ spectra) [] spectrum section are is = absurd are
-AreSections-push (first ∷ spectra) (other ∷ others) spectrum section are is = (are.0, AreSections-push spectra others spectrum section are.1 is)
+AreSections-push : (settings : SettingsValue) (spectra : List SpectrumValue) (sections : List Section) (spectrum : SpectrumValue) (section : Section)
+    → AreSections settings spectra sections → IsSection settings spectrum section → AreSections settings (spectra ++ spectrum ∷ []) (sections ++ section ∷ [])
+AreSections-push settings [] [] spectrum section are is = (is, tt)
+AreSections-push settings [] (other ∷ others) spectrum section are is = absurd are
+AreSections-push settings (first ∷ spectra) [] spectrum section are is = absurd are
+AreSections-push settings (first ∷ spectra) (other ∷ others) spectrum section are is = (are.0, AreSections-push settings spectra others spectrum section are.1 is)
 
 flat_map-push : (sections : List Section) (section : Section) → flat_map section_lines (sections ++ section ∷ []) ≡ flat_map section_lines sections ++ section_lines section
 flat_map-push [] section = append-nil (section_lines section)
 flat_map-push (first ∷ sections) section = ap (λ (bytes : List ℕ). section_lines first ++ bytes) (flat_map-push sections section) ∙ sym (append_assoc (section_lines first) (flat_map section_lines sections) (section_lines section))
 
 -- The sections of the spectra that were handed out stand in a report; the others wait.
-pub record Pushed (all waiting : List SpectrumValue) (before now : List ℕ) : Type 0 where
+pub record Pushed (settings : SettingsValue) (all waiting : List SpectrumValue) (before now : List ℕ) : Type 0 where
   pub out : List SpectrumValue
   pub sections : List Section
   pub whole : all ≡ out ++ waiting
-  pub are_sections : AreSections out sections
+  pub are_sections : AreSections settings out sections
   pub bytes : now ≡ before ++ flat_map section_lines sections
 
-pub pushed_none : (all : List SpectrumValue) (before : List ℕ) → Pushed all all before before
-pushed_none all before = record { out = []; sections = []; whole = refl; are_sections = tt; bytes = sym (append-nil before) }
+pub pushed_none : (settings : SettingsValue) (all : List SpectrumValue) (before : List ℕ) → Pushed settings all all before before
+pushed_none settings all before = record { out = []; sections = []; whole = refl; are_sections = tt; bytes = sym (append-nil before) }
 
-pub pushed_more : (all waiting rest : List SpectrumValue) (before now next : List ℕ) (spectrum : SpectrumValue) (section : Section)
-    → Pushed all waiting before now
+pub pushed_more : (settings : SettingsValue) (all waiting rest : List SpectrumValue) (before now next : List ℕ) (spectrum : SpectrumValue) (section : Section)
+    → Pushed settings all waiting before now
     → waiting ≡ spectrum ∷ rest
-    → IsSection spectrum section
+    → IsSection settings spectrum section
     → next ≡ now ++ section_lines section
-    → Pushed all rest before next
-pushed_more all waiting rest before now next spectrum section pushed taken is more = record {
+    → Pushed settings all rest before next
+pushed_more settings all waiting rest before now next spectrum section pushed taken is more = record {
   out = pushed.out ++ spectrum ∷ [];
   sections = pushed.sections ++ section ∷ [];
   whole = pushed.whole ∙ ap (λ (w : List SpectrumValue). pushed.out ++ w) taken ∙ sym (append_assoc pushed.out (spectrum ∷ []) rest);
-  are_sections = AreSections-push pushed.out pushed.sections spectrum section pushed.are_sections is;
+  are_sections = AreSections-push settings pushed.out pushed.sections spectrum section pushed.are_sections is;
   bytes = more ∙ ap (λ (b : List ℕ). b ++ section_lines section) pushed.bytes ∙ append_assoc before (flat_map section_lines pushed.sections) (section_lines section) ∙ ap (λ (b : List ℕ). before ++ b) (sym (flat_map-push pushed.sections section));
 }
 
-pub pushed_all : (all waiting : List SpectrumValue) (before now : List ℕ) → Pushed all waiting before now → waiting ≡ [] → (sections : List Section) × AreSections all sections × (now ≡ before ++ flat_map section_lines sections)
-pushed_all all waiting before now pushed none =
-    (pushed.sections, subst (λ (s : List SpectrumValue). AreSections s pushed.sections) (sym (pushed.whole ∙ ap (λ (w : List SpectrumValue). pushed.out ++ w) none ∙ append-nil pushed.out)) pushed.are_sections, pushed.bytes)
+pub pushed_all : (settings : SettingsValue) (all waiting : List SpectrumValue) (before now : List ℕ) → Pushed settings all waiting before now → waiting ≡ [] → (sections : List Section) × AreSections settings all sections × (now ≡ before ++ flat_map section_lines sections)
+pushed_all settings all waiting before now pushed none =
+    (pushed.sections, subst (λ (s : List SpectrumValue). AreSections settings s pushed.sections) (sym (pushed.whole ∙ ap (λ (w : List SpectrumValue). pushed.out ++ w) none ∙ append-nil pushed.out)) pushed.are_sections, pushed.bytes)
 
 -- right sections are as many as their spectra
-length-AreSections : (spectra : List SpectrumValue) (sections : List Section) → AreSections spectra sections → length sections ≡ length spectra
-length-AreSections [] [] are = refl
-length-AreSections [] (other ∷ others) are = absurd are
-length-AreSections (first ∷ spectra) [] are = absurd are
-length-AreSections (first ∷ spectra) (other ∷ others) are = ap suc (length-AreSections spectra others are.1)
+length-AreSections : (settings : SettingsValue) (spectra : List SpectrumValue) (sections : List Section) → AreSections settings spectra sections → length sections ≡ length spectra
+length-AreSections settings [] [] are = refl
+length-AreSections settings [] (other ∷ others) are = absurd are
+length-AreSections settings (first ∷ spectra) [] are = absurd are
+length-AreSections settings (first ∷ spectra) (other ∷ others) are = ap suc (length-AreSections settings spectra others are.1)
 
 -- any first bytes of a right report are a first part of it
-pub part_of : (text : List ℕ) (fault : Option MgfFault) (bytes : List ℕ) (n : ℕ) → IsReport text fault bytes → IsReportPart text (take n bytes)
-part_of text fault bytes n report =
-    let same : length report.sections ≡ length report.spectra = length-AreSections report.spectra report.sections report.are_sections in
+pub part_of : (settings : SettingsValue) (text : List ℕ) (fault : Option MgfFault) (bytes : List ℕ) (n : ℕ) → IsReport settings text fault bytes → IsReportPart settings text (take n bytes)
+part_of settings text fault bytes n report =
+    let same : length report.sections ≡ length report.spectra = length-AreSections settings report.spectra report.sections report.are_sections in
     let none : nat_lt (length report.sections) (length report.spectra) ≡ false = grind (arith, nat_tests) in
     record {
       spectra = report.spectra;
       fault = fault;
       reads = report.reads;
       sections = report.sections;
-      are_sections = subst (λ (n : ℕ). AreSections (take n report.spectra) report.sections) (sym same) (subst (λ (s : List SpectrumValue). AreSections s report.sections) (sym (take-length report.spectra)) report.are_sections);
+      are_sections = subst (λ (n : ℕ). AreSections settings (take n report.spectra) report.sections) (sym same) (subst (λ (s : List SpectrumValue). AreSections settings s report.sections) (sym (take-length report.spectra)) report.are_sections);
       rest = drop n bytes;
       form = ap (λ (whole : Bool). flat_map section_lines report.sections ++ (if whole then [] else ending_line fault)) none ∙ sym report.form ∙ sym (take-append-drop n bytes);
     }

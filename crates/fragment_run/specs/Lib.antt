@@ -6,5 +6,6 @@ pub mod Causes
 pub mod Sections
 pub mod Bodies
 pub mod ListPromise
-pub mod ListSteps
-pub mod Lister
+pub mod Steps
+pub mod SettingsOf
+pub mod ProfilePromise

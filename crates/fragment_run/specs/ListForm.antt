@@ -1,26 +1,22 @@
 -- The report of a list: for each spectrum its lists of formulas, or why it was skipped, and an ending.
 use Rattle.std.specs.Prelude.{◌++◌, ◌+◌, ◌/◌, ◌%◌, ℕ, List, [], ◌∷◌, length, codes, decimal, Option, Some, None, if◌then◌else◌, nat_lt, nat_le, ◌&&◌, ◌==◌, not}
 use Rattle.std.specs.List.{flat_map}
+use Rattle.element_table.specs.FormulaList.{FormulaListValue}
 use Rattle.element_table.specs.FormulaText.{formula_text}
 use Rattle.mgf_reader.specs.declared.fault.MgfFault.{MgfFault}
 use Rattle.mgf_reader.specs.Fault.{kind_text}
 
--- the formulas of one peak
-pub record FormulaList : Type 0 where
-  pub mz : ℕ
-  pub intensity : ℕ
-  pub formulas : List (List ℕ)
-
 -- why a spectrum was skipped, with the m/z that shows it
 pub data Skip : Type 0 where
   no_precursor : Skip
+  charge : Skip
   range : ℕ → Skip
   too_many : ℕ → Skip
 
 -- what stands of a spectrum: why it was skipped, or its lists, the precursor's first
 pub data Body : Type 0 where
   skipped : Skip → Body
-  listed : List FormulaList → Body
+  listed : List FormulaListValue → Body
 
 pub record Section : Type 0 where
   pub line : ℕ
@@ -41,11 +37,12 @@ escaped title = flat_map escaped_byte title
 abbrev pub formula_line : List ℕ → List ℕ
 formula_line counts = codes "f " ++ formula_text counts ++ codes "\n"
 
-abbrev pub list_lines : FormulaList → List ℕ
+abbrev pub list_lines : FormulaListValue → List ℕ
 list_lines list = codes "list " ++ decimal list.mz ++ codes " " ++ decimal list.intensity ++ codes " " ++ decimal (length list.formulas) ++ codes "\n" ++ flat_map formula_line list.formulas
 
 abbrev pub skip_line : Skip → List ℕ
 skip_line no_precursor = codes "skip no-precursor\n"
+skip_line charge = codes "skip charge\n"
 skip_line (range mz) = codes "skip range " ++ decimal mz ++ codes "\n"
 skip_line (too_many mz) = codes "skip too-many " ++ decimal mz ++ codes "\n"
 

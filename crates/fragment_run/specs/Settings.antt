@@ -1,17 +1,40 @@
--- The window and the list of a precursor under the settings.
-use Rattle.std.specs.Prelude.{ℕ, pos, List, [], ◌∷◌}
+-- What lists are made under, and the list of an ion.
+use Rattle.std.specs.Prelude.{ℕ, Bool, List, ◌∷◌, length, nat_lt}
+use Rattle.element_table.specs.FormulaList.{FormulaListValue}
 use Rattle.element_table.specs.Window.{Window, window_of}
 use Rattle.element_table.specs.Rule.{Rule, fragment_rule_of}
-use Rattle.element_table.specs.Listed.{Listed}
-use Rattle.fragment_run.specs.declared.settings.TheConstants.{BOUND, LIMITS, PPM, SHIFT, UNITS}
+use Rattle.element_table.specs.Listed.{listed_of}
+use Rattle.adducts.specs.Adduct.{AdductValue}
+use Rattle.adducts.specs.declared.choice.Choice.{Choice}
+use Rattle.formula_lister.specs.declared.outcome.TheConstants.{MOST_FORMULAS}
+use Rattle.profile.specs.Profile.{ProfileValue}
 
-abbrev pub rules : List Rule
-rules = fragment_rule_of BOUND ∷ []
+-- the adduct, the width of windows and the number of selected peaks; the greatest count of each element; and the rules of a fragment
+pub record SettingsValue : Type 0 where
+  pub choice : Choice
+  pub limits : List ℕ
+  pub rules : List Rule
 
--- the list of a window under the limits and rules
-abbrev pub IsList : Window → List (List ℕ) → Type 0
-IsList window formulas = Listed window LIMITS rules formulas
+-- the settings of a profile and an adduct: a fragment has at least the adduct's bound of rings and double bonds
+abbrev pub settings_of : ProfileValue → AdductValue → SettingsValue
+settings_of profile adduct = record {
+  choice = record { adduct = adduct; ppm = profile.ppm; abs = profile.abs; peaks = profile.peaks };
+  limits = profile.limits;
+  rules = fragment_rule_of adduct.bound ∷ profile.rules;
+}
 
--- the window of a precursor
-abbrev pub precursor_window : ℕ → Window
-precursor_window mz = window_of (pos SHIFT) PPM UNITS mz
+-- the window of an ion at an m/z
+abbrev pub window_at : SettingsValue → ℕ → Window
+window_at settings mz = window_of settings.choice.adduct.shift settings.choice.ppm settings.choice.abs mz
+
+-- the list of an ion: exactly the formulas in its window that the limits and the rules allow
+abbrev pub formulas_at : SettingsValue → ℕ → List (List ℕ)
+formulas_at settings mz = listed_of (window_at settings mz) settings.limits settings.rules
+
+-- the list has more formulas than one may have
+abbrev pub has_too_many : SettingsValue → ℕ → Bool
+has_too_many settings mz = nat_lt MOST_FORMULAS (length (formulas_at settings mz))
+
+-- the list of a peak, with its m/z and its intensity
+abbrev pub list_at : SettingsValue → ℕ → ℕ → FormulaListValue
+list_at settings mz intensity = record { mz = mz; intensity = intensity; formulas = formulas_at settings mz }

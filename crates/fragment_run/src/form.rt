@@ -5,7 +5,7 @@ ghost use Rattle.fragment_run.specs.ListForm.{body_lines, ending_line, escaped, 
 ghost use Rattle.fragment_run.specs.Bodies.{body_of, skip_of};
 
 use crate::section::{Body, Skip};
-use element_table::{Formula, print_formula};
+use element_table::{Formula, FormulaList, print_formula};
 use mgf_reader::MgfFault;
 use std::alloc::{AllocError, Global};
 
@@ -32,11 +32,9 @@ pub fn push_body(alloc: Global, text: &mut Vec<u8>, body: &Body) -> Result<(), A
 {
     match body {
         Body::Skipped(reason) => push_skip(alloc, text, reason),
-        Body::Listed(mz, formulas) => {
-            text.extend_from_slice(b"lists ")?;
-            push_number(alloc, text, 1)?;
-            text.extend_from_slice(b"\n")?;
-            push_list(alloc, text, *mz, 0, formulas)
+        Body::Listed(lists) => {
+            push_line(alloc, text, b"lists ", lists.len() as u64)?;
+            push_lists(alloc, text, lists)
         }
     }
 }
@@ -68,6 +66,7 @@ fn push_skip(alloc: Global, text: &mut Vec<u8>, reason: &Skip) -> Result<(), All
 {
     match reason {
         Skip::NoPrecursor => text.extend_from_slice(b"skip no-precursor\n")?,
+        Skip::Charge => text.extend_from_slice(b"skip charge\n")?,
         Skip::Range(mz) => push_line(alloc, text, b"skip range ", *mz)?,
         Skip::TooMany(mz) => push_line(alloc, text, b"skip too-many ", *mz)?,
     }
@@ -84,21 +83,25 @@ fn push_line(alloc: Global, text: &mut Vec<u8>, words: &[u8], number: u64) -> Re
     Ok(())
 }
 
-// Appends the lines of one list.
-fn push_list(
-    alloc: Global,
-    text: &mut Vec<u8>,
-    mz: u64,
-    intensity: u64,
-    formulas: &[Formula],
-) -> Result<(), AllocError>
-    ensures { OnOk result (text.new.items ≡ text.old.items
-        ++ list_lines (record { mz = mz; intensity = intensity; formulas = formulas.now })) }
+// Appends the lines of each list.
+fn push_lists(alloc: Global, text: &mut Vec<u8>, lists: &[FormulaList]) -> Result<(), AllocError>
+    ensures { OnOk result (text.new.items ≡ text.old.items ++ flat_map list_lines lists.now) }
 {
+    for list in lists {
+        push_list(alloc, text, list)?;
+    }
+    Ok(())
+}
+
+// Appends the lines of one list.
+fn push_list(alloc: Global, text: &mut Vec<u8>, list: &FormulaList) -> Result<(), AllocError>
+    ensures { OnOk result (text.new.items ≡ text.old.items ++ list_lines list.now) }
+{
+    let formulas = list.formulas.items();
     text.extend_from_slice(b"list ")?;
-    push_number(alloc, text, mz)?;
+    push_number(alloc, text, list.mz)?;
     text.extend_from_slice(b" ")?;
-    push_number(alloc, text, intensity)?;
+    push_number(alloc, text, list.intensity)?;
     text.extend_from_slice(b" ")?;
     push_number(alloc, text, formulas.len() as u64)?;
     text.extend_from_slice(b"\n")?;
@@ -126,8 +129,8 @@ fn push_number(alloc: Global, text: &mut Vec<u8>, number: u64) -> Result<(), All
     Ok(())
 }
 
-// Appends a title, its bytes that are not printed by their numbers.
-fn push_escaped(text: &mut Vec<u8>, title: &[u8]) -> Result<(), AllocError>
+/// Appends a title or a name, its bytes that are not printed by their numbers.
+pub fn push_escaped(text: &mut Vec<u8>, title: &[u8]) -> Result<(), AllocError>
     ensures { OnOk result (text.new.items ≡ text.old.items ++ escaped title.now) }
 {
     for byte in title {

@@ -5,22 +5,30 @@ ghost use Rattle.mgf_reader.specs.Grammar.{Reads};
 ghost use Rattle.mgf_reader.specs.Stands.{Stands};
 ghost use Rattle.fragment_run.specs.ListForm.{Section, section_lines};
 ghost use Rattle.fragment_run.specs.Sections.{AreSections, IsReport};
+ghost use Rattle.fragment_run.specs.SettingsOf.{value_of};
+ghost use Rattle.valence_filter.specs.Sieve.{IsSieve};
 
 use crate::form::push_ending;
 use crate::section::push_section;
-use crate::settings::MAX_TEXT;
+use crate::settings::{MAX_TEXT, Settings};
+use element_table::Formula;
 use mgf_reader::{FeedFault, MgfFault, Reader};
 use std::alloc::{AllocError, Global};
 
 /// The report of a text, and the line that refused it, where there is one.
-pub fn report_of(alloc: Global, text: &[u8]) -> Result<(Vec<u8>, Option<MgfFault>), AllocError>
-    requires { length text.now ≤ MAX_TEXT }
-    ensures { IfOk result (λ made. IsReport text.now made.1 made.0.items) }
+pub fn report_of<F: Fn(&Formula) -> bool>(
+    alloc: Global,
+    text: &[u8],
+    settings: &Settings<F>,
+) -> Result<(Vec<u8>, Option<MgfFault>), AllocError>
+    requires short { length text.now ≤ MAX_TEXT }
+    requires sieve { IsSieve F.pre F.post settings.now.sieve }
+    ensures { IfOk result (λ made. IsReport (value_of settings.now) text.now made.1 made.0.items) }
 {
     let mut reader = Reader::new(alloc)?;
     let fault = read_all(&mut reader, text)?;
     let mut report = Vec::new(alloc);
-    push_sections(alloc, &mut report, &mut reader)?;
+    push_sections(alloc, &mut report, &mut reader, settings)?;
     push_ending(alloc, &mut report, fault)?;
     Ok((report, fault))
 }
@@ -43,12 +51,18 @@ fn read_all(reader: &mut Reader, text: &[u8]) -> Result<Option<MgfFault>, AllocE
 }
 
 // Appends the sections of the spectra that wait.
-fn push_sections(alloc: Global, report: &mut Vec<u8>, reader: &mut Reader) -> Result<(), AllocError>
-    ensures { OnOk result ((sections : List Section) × AreSections reader.old.waiting sections
+fn push_sections<F: Fn(&Formula) -> bool>(
+    alloc: Global,
+    report: &mut Vec<u8>,
+    reader: &mut Reader,
+    settings: &Settings<F>,
+) -> Result<(), AllocError>
+    requires sieve { IsSieve F.pre F.post settings.now.sieve }
+    ensures { OnOk result ((sections : List Section) × AreSections (value_of settings.now) reader.old.waiting sections
         × (report.new.items ≡ report.old.items ++ flat_map section_lines sections)) }
 {
     while let Some(spectrum) = reader.next() {
-        push_section(alloc, report, &spectrum)?;
+        push_section(alloc, report, &spectrum, settings)?;
     }
     Ok(())
 }

@@ -1,29 +1,43 @@
-//! The settings that every list is made under.
-use element_table::PLACES;
+//! What lists are made under.
+ghost use Rattle.std.specs.Prelude.{◌≡◌, IfOk};
+ghost use Rattle.fragment_run.specs.Settings.{settings_of};
 
-/// The shift of `[M+H]+`: an ion's m/z less the mass of its formula, in units of 10^-7 Da.
-pub const SHIFT: u64 = 10_072_764;
+use adducts::{Adduct, Choice};
+use element_table::Formula;
+use profile::{Limits, Profile};
+use std::alloc::{AllocError, Global};
+use valence_filter::{Rule, Sieve, fragment_rule};
 
-/// Half the width of a window, in parts in a million of the m/z.
-pub const PPM: u64 = 10;
-
-/// The least that half the width of a window is, in units of 10^-7 Da.
-pub const UNITS: u64 = 10_000;
-
-/// The greatest count of each element, by places: H 200, C 100, N 20, O 40, and no other.
-pub const LIMITS: [u16; PLACES] = [200, 100, 20, 40, 0, 0, 0, 0, 0, 0, 0, 0, 0, 0, 0, 0];
-
-/// The least that twice the rings and double bonds of a listed formula may be.
-pub const BOUND: i32 = -1;
-
-/// The greatest half-width of a window, in units of 10^-7 Da.
-pub const GREATEST_HALF_WIDTH: u64 = 2_000_000;
-
-/// How many bytes a text of spectra may have.
+/// How many bytes a text of spectra or of a profile may have.
 pub const MAX_TEXT: usize = 67_108_864;
 
-/// The greatest neutral mass that is looked at, in units of 10^-7 Da.
-pub const GREATEST_MASS: u64 = 20_000_000_000;
+/// What lists are made under: the adduct, the width of windows and the number of selected peaks; the greatest count of each
+/// element; and the rules of a fragment.
+#[derive(Drop)]
+pub struct Settings<F: Fn(&Formula) -> bool> {
+    pub choice: Choice,
+    pub limits: Limits,
+    pub sieve: Sieve<F>,
+}
 
-/// How many formulas a list may have.
-pub const MOST_FORMULAS: usize = 20_000;
+/// The choice that a profile makes for an adduct.
+pub fn choice_of(profile: &Profile, adduct: Adduct) -> Choice
+    ensures { result ≡ (settings_of profile.now adduct).choice }
+{
+    Choice {
+        adduct,
+        ppm: profile.ppm,
+        abs: profile.abs,
+        peaks: profile.peaks,
+    }
+}
+
+/// The rules of a fragment of an adduct's ions under a profile.
+pub fn rules_of(alloc: Global, profile: &Profile, adduct: &Adduct) -> Result<Vec<Rule>, AllocError>
+    ensures { IfOk result (λ rules. rules.items ≡ (settings_of profile.now adduct.now).rules) }
+{
+    let mut rules = Vec::new(alloc);
+    rules.push(fragment_rule(adduct.bound))?;
+    rules.extend_from_slice(profile.rules.items())?;
+    Ok(rules)
+}

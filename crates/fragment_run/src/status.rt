@@ -1,14 +1,17 @@
 //! How a run ended: the status, its code and the line that tells it.
-ghost use Rattle.std.specs.Prelude.{◌≡◌, ◌++◌, IfOk, codes};
+ghost use Rattle.std.specs.Prelude.{◌≡◌, ◌++◌, IfOk, OnOk, codes};
+ghost use Rattle.fragment_run.specs.ListForm.{escaped};
 ghost use Rattle.fragment_run.specs.declared.status.Status.TheVariants.{Memory};
-ghost use Rattle.fragment_run.specs.Status.{code_of, fault_line, slot_name_of};
+ghost use Rattle.fragment_run.specs.Status.{code_of, fault_line, refusal_text, slot_name_of};
 
+use crate::form::push_escaped;
 use frag_io::Slot;
 use mgf_reader::MgfFault;
+use profile::{Name, ProfileFault};
 use std::alloc::{AllocError, Global};
 
 /// How a run ended.
-#[derive(Clone, Copy, Debug, PartialEq, Eq)]
+#[derive(Debug, Drop)]
 pub enum Status {
     /// All that was ordered was written.
     Done,
@@ -26,6 +29,8 @@ pub enum Status {
     TooLong(Slot),
     /// This line refuses the text.
     MgfRefused(MgfFault),
+    /// The profile is refused, never for want of memory.
+    ProfileRefused(ProfileFault),
 }
 
 impl From<AllocError> for Status {
@@ -46,6 +51,7 @@ impl Status {
             Status::Words => 2,
             Status::Memory => 3,
             Status::MgfRefused(_) => 4,
+            Status::ProfileRefused(_) => 5,
             Status::ReadFault(_) => 6,
             Status::WriteFault(_) => 7,
             Status::OpenFault(_) => 8,
@@ -67,6 +73,7 @@ pub fn fault_text(alloc: Global, status: &Status) -> Result<Vec<u8>, AllocError>
         Status::OpenFault(slot) => line(alloc, "open fault: ", slot_name(*slot)),
         Status::TooLong(slot) => line(alloc, "too long: ", slot_name(*slot)),
         Status::MgfRefused(fault) => refusal(alloc, fault),
+        Status::ProfileRefused(fault) => profile_refusal(alloc, fault),
     }
 }
 
@@ -82,6 +89,44 @@ fn refusal(alloc: Global, fault: &MgfFault) -> Result<Vec<u8>, AllocError>
     line.extend_from_slice(fault.kind.text().as_bytes())?;
     line.extend_from_slice(b"\n")?;
     Ok(line)
+}
+
+// The line that tells why a profile is refused.
+fn profile_refusal(alloc: Global, fault: &ProfileFault) -> Result<Vec<u8>, AllocError>
+    ensures { IfOk result (λ line. line.items ≡ fault_line (Status.ProfileRefused fault.now)) }
+{
+    let mut line = Vec::new(alloc);
+    line.extend_from_slice(b"profile: ")?;
+    push_refusal(alloc, &mut line, fault)?;
+    line.extend_from_slice(b"\n")?;
+    Ok(line)
+}
+
+// Appends why a profile is refused.
+fn push_refusal(alloc: Global, line: &mut Vec<u8>, fault: &ProfileFault) -> Result<(), AllocError>
+    ensures { OnOk result (line.new.items ≡ line.old.items ++ refusal_text fault.now) }
+{
+    match fault {
+        ProfileFault::NotToml => line.extend_from_slice(b"not TOML")?,
+        ProfileFault::UnknownKey(name) => push_named(line, b"unknown key ", name)?,
+        ProfileFault::BadValue(name) => push_named(line, b"bad value ", name)?,
+        ProfileFault::OverLimit(name, number) => {
+            push_named(line, b"out of range ", name)?;
+            line.extend_from_slice(b" ")?;
+            let digits = number.to_string(alloc)?;
+            line.extend_from_slice(digits.as_bytes())?;
+        }
+        ProfileFault::OutOfMemory => line.extend_from_slice(b"no memory")?,
+    }
+    Ok(())
+}
+
+// Appends words and the name of a place in a profile.
+fn push_named(line: &mut Vec<u8>, words: &[u8], name: &Name) -> Result<(), AllocError>
+    ensures { OnOk result (line.new.items ≡ line.old.items ++ words.now ++ escaped name.now) }
+{
+    line.extend_from_slice(words)?;
+    push_escaped(line, name.items())
 }
 
 // A line of two parts.

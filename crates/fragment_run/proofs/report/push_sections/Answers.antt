@@ -3,15 +3,15 @@ use Rattle.fragment_run.proofs.Reports.{pushed_none, pushed_more, pushed_all}
 use Rattle.fragment_run.proofs.report.push_sections.Goals as goal
 
 pub loop-spectrum-init : goal.loop-spectrum-init
-loop-spectrum-init c = pushed_none _ _
+loop-spectrum-init g c = pushed_none _ _ _
 
 pub loop-spectrum-preserved : goal.loop-spectrum-preserved
-loop-spectrum-preserved c =
+loop-spectrum-preserved g c =
     let pushed = c.in_ok-push_section.ensures in
-    pushed_more _ _ _ _ _ _ _ pushed.0 c.loop-spectrum.invariant c.in-Some.ensures.taken pushed.1 pushed.2
+    pushed_more _ _ _ _ _ _ _ _ pushed.0 c.loop-spectrum.invariant c.in-Some.ensures.taken pushed.1 pushed.2
 
 pub loop-spectrum-smaller : goal.loop-spectrum-smaller
-loop-spectrum-smaller c = omega (arith, ap length c.in-Some.ensures.taken)
+loop-spectrum-smaller g c = omega (arith, ap length c.in-Some.ensures.taken)
 
 pub returns : goal.returns
-returns c = pushed_all _ _ _ _ c.loop-spectrum.invariant c.in_default.ensures.taken
+returns g c = pushed_all _ _ _ _ _ c.loop-spectrum.invariant c.in_default.ensures.taken

@@ -1,0 +1,12 @@
+use Rattle.std.proofs.Common.{◌∙◌, List, arith, sym, subst}
+use Rattle.std.specs.List.{All}
+use Rattle.mgf_reader.specs.Spectrum.{PeakValue}
+use Rattle.adducts.specs.Selected.{LiesBelow}
+use Rattle.fragment_run.proofs.Below.{less_from_below}
+use Rattle.fragment_run.proofs.section.read_body.Goals as goal
+
+pub explain-requires-clause-below : goal.explain-requires-clause-below
+explain-requires-clause-below g c k d h =
+    let below = subst (λ (peaks : List PeakValue). All (λ peak. LiesBelow c.args.settings.now.choice peak.mz c.in-Usable.mz) peaks) (sym c.deref.ensures.value)
+    (c.in_ok-selected-in-Usable.ensures.below c.in-Usable.mz (sym c.fit.ensures.fit ∙ c.in-Usable.is)) in
+    omega (arith, less_from_below c.args.settings.now.choice _ c.in-Usable.mz (below k d h))
