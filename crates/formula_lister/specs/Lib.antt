@@ -1,3 +1,4 @@
 pub mod Elements
 pub mod Weights
 pub mod Counting
+pub mod Most

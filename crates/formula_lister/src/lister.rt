@@ -3,11 +3,12 @@ ghost use Rattle.std.specs.Prelude.{◌≡◌, ◌≤◌, ◌<◌, ◌^◌, ◌+
 ghost use Rattle.element_table.specs.Listed.{Listed, listed_of};
 ghost use Rattle.element_table.specs.Window.{greatest_half_width};
 ghost use Rattle.valence_filter.specs.Sieve.{IsSieve, rules_of};
+ghost use Rattle.formula_lister.specs.Most.{most_formulas};
 
 use crate::chosen::{Bounds, Chosen};
 use crate::counting::list_from;
 use crate::element::counted_elements;
-use crate::outcome::{ListFault, MOST_FORMULAS};
+use crate::outcome::ListFault;
 use adducts::Window;
 use element_table::{Formula, sorted_formulas_rise, the_list_is_a_filter};
 use profile::Limits;
@@ -15,7 +16,7 @@ use std::alloc::Global;
 use valence_filter::Sieve;
 
 /// The formulas in a window whose counts are within the limits and which pass the sieve, each once, in formula order.
-/// Where they are more than `MOST_FORMULAS`, the answer is `TooMany`, as soon as one more is found. A window is at most
+/// Where they are more than 20,000, the answer is `TooMany`, as soon as one more is found. A window is at most
 /// 0.4 Da wide and ends at most at 10,000 Da.
 pub fn list<F: Fn(&Formula) -> bool>(
     alloc: Global,
@@ -28,9 +29,9 @@ pub fn list<F: Fn(&Formula) -> bool>(
     requires narrow { window.now.half ≤ greatest_half_width }
     ensures list { IfOk result (λ formulas. Listed window.now limits.now (rules_of sieve.now) formulas.items) }
     ensures filter { IfOk result (λ formulas. formulas.items ≡ listed_of window.now limits.now (rules_of sieve.now)) }
-    ensures few { IfOk result (λ formulas. length formulas.items ≤ MOST_FORMULAS) }
+    ensures few { IfOk result (λ formulas. length formulas.items ≤ most_formulas) }
     ensures too_many { result ≡ Err ListFault.TooMany
-        → MOST_FORMULAS < length (listed_of window.now limits.now (rules_of sieve.now)) }
+        → most_formulas < length (listed_of window.now limits.now (rules_of sieve.now)) }
 {
     the_list_is_a_filter();
     sorted_formulas_rise();

@@ -8,7 +8,7 @@ use Rattle.frag_io.specs.Desk.{IsCounted, IsEmpty}
 use Rattle.profile.specs.Profile.{ProfileValue}
 use Rattle.profile.specs.ProfileOf.{profile_of}
 use Rattle.profile.specs.declared.fault.ProfileFault.{ProfileFault}
-use Rattle.fragment_run.specs.declared.settings.TheConstants.{MAX_TEXT}
+use Rattle.fragment_run.specs.ProfilePromise.{greatest_text}
 use Rattle.fragment_run.specs.declared.status.Status.{Status}
 use Rattle.fragment_run.specs.declared.status.Status.TheVariants.{Done, Words, Memory, OpenFault, ReadFault, WriteFault, TooLong, MgfRefused, ProfileRefused}
 use Rattle.fragment_run.specs.Causes.{Causes, HasFault}
@@ -119,14 +119,14 @@ short_profile : {D : Type 0} (begun : D → Slot → Bool) (gives : D → List �
     (profile : ProfileValue)
     → ProfilePromise begun gives left faults name before now (TooLong Profile)
     → outcome_of (gives before) name ≡ Some (Ok profile)
-    → IfSome (option_and_then (gives before) name) (λ text. length text ≤ MAX_TEXT)
+    → IfSome (option_and_then (gives before) name) (λ text. length text ≤ greatest_text)
     → ⊥
 short_profile begun gives left faults None before now profile promise is short = (promise.unnamed refl).1 tt
 short_profile begun gives left faults (Some name) before now profile promise is short = by_text (gives before name) is promise.text short
   where
-    by_text : (text : Option (List ℕ)) → option_map profile_of text ≡ Some (Ok profile) → IfSome text (λ text. FitsProfile text (begun now Profile) (left now Profile) (TooLong Profile)) → IfSome text (λ text. length text ≤ MAX_TEXT) → ⊥
+    by_text : (text : Option (List ℕ)) → option_map profile_of text ≡ Some (Ok profile) → IfSome text (λ text. FitsProfile text (begun now Profile) (left now Profile) (TooLong Profile)) → IfSome text (λ text. length text ≤ greatest_text) → ⊥
     by_text None same fits few = cc
-    by_text (Some text) same fits few = let long : MAX_TEXT < length text = fits.too_long refl in omega arith
+    by_text (Some text) same fits few = let long : greatest_text < length text = fits.too_long refl in omega arith
 
 -- texts within the limit are answered where no fault is counted and memory is there
 pub answered : {D : Type 0} (begun finished : D → Slot → Bool) (gives : D → List ℕ → Option (List ℕ)) (left written : D → Slot → Option (List ℕ)) (faults : D → Slot → ℕ) (name : Option (List ℕ)) (before now : D)
@@ -135,8 +135,8 @@ pub answered : {D : Type 0} (begun finished : D → Slot → Bool) (gives : D �
     → ProfilePromise begun gives left faults name before now status
     → FitsText text status
     → outcome_of (gives before) name ≡ Some (Ok profile)
-    → IfSome (option_and_then (gives before) name) (λ text. length text ≤ MAX_TEXT)
-    → length text ≤ MAX_TEXT
+    → IfSome (option_and_then (gives before) name) (λ text. length text ≤ greatest_text)
+    → length text ≤ greatest_text
     → ((slot : Slot) → HasFault faults before now slot → ⊥)
     → IsAnswer status
 answered begun finished gives left written faults name before now profile text Done causes promise fits is few short none = tt

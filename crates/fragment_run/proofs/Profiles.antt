@@ -8,7 +8,7 @@ use Rattle.frag_io.specs.declared.desk.Slot.TheVariants.{Profile}
 use Rattle.profile.specs.ProfileOf.{profile_of}
 use Rattle.profile.specs.Profile.{ProfileValue}
 use Rattle.profile.specs.declared.fault.ProfileFault.{ProfileFault}
-use Rattle.fragment_run.specs.declared.settings.TheConstants.{MAX_TEXT}
+use Rattle.fragment_run.specs.ProfilePromise.{greatest_text}
 use Rattle.fragment_run.specs.declared.status.Status.TheVariants.{Memory, ProfileRefused}
 use Rattle.fragment_run.specs.ProfilePromise.{FitsProfile, OnlyProfile, ProfilePromise}
 use Rattle.profile.specs.declared.fault.ProfileFault.TheVariants.{NotToml, UnknownKey, BadValue, OverLimit, OutOfMemory}
@@ -22,7 +22,7 @@ same_fault : (outcome : Outcome) (one other : ProfileFault) → outcome ≡ Err 
 same_fault outcome one other is also = cc
 
 -- a text that was read whole and is refused
-refused_text : (text : List ℕ) (begun : Bool) (left : Option (List ℕ)) (fault : ProfileFault) → left ≡ Some [] → length text ≤ MAX_TEXT → profile_of text ≡ Err fault
+refused_text : (text : List ℕ) (begun : Bool) (left : Option (List ℕ)) (fault : ProfileFault) → left ≡ Some [] → length text ≤ greatest_text → profile_of text ≡ Err fault
     → FitsProfile text begun left (ProfileRefused fault)
 refused_text text begun left fault whole short is = record {
   refusal = λ other told. (whole, short, is ∙ ap Err (same_refusal other told));
@@ -37,7 +37,7 @@ refused_text text begun left fault whole short is = record {
 refused_exit : {D : Type 0} (begun : D → Slot → Bool) (gives : D → List ℕ → Option (List ℕ)) (left : D → Slot → Option (List ℕ)) (faults : D → Slot → ℕ) (name : List ℕ) (before now : D)
     (bytes : Vec ℕ Global) (fault : ProfileFault)
     → IfSome (gives before name) (λ text. ReadsText Profile text (left now Profile) (Ok bytes))
-    → length bytes.items ≤ MAX_TEXT
+    → length bytes.items ≤ greatest_text
     → profile_of bytes.items ≡ Err fault
     → OnlyProfile (begun now)
     → ProfilePromise begun gives left faults (Some name) before now (ProfileRefused fault)
@@ -45,7 +45,7 @@ refused_exit begun gives left faults name before now bytes fault reads short is 
   unnamed = λ none. cc;
   text = IfSome_then (gives before name) reads (λ text read.
       refused_text text (begun now Profile) (left now Profile) fault read.read.1
-      (subst (λ (t : List ℕ). length t ≤ MAX_TEXT) (sym read.read.0) short)
+      (subst (λ (t : List ℕ). length t ≤ greatest_text) (sym read.read.0) short)
       (ap profile_of read.read.0 ∙ is));
   alone = λ own. only;
   unused = λ other outcome. only;
@@ -56,7 +56,7 @@ refused_exit begun gives left faults name before now bytes fault reads short is 
 }
 
 -- a text that was read whole, where there is no memory for its profile
-memory_text : (text : List ℕ) (begun : Bool) (left : Option (List ℕ)) → left ≡ Some [] → length text ≤ MAX_TEXT → FitsProfile text begun left Memory
+memory_text : (text : List ℕ) (begun : Bool) (left : Option (List ℕ)) → left ≡ Some [] → length text ≤ greatest_text → FitsProfile text begun left Memory
 memory_text text begun left whole short = record {
   refusal = λ other told. cc;
   too_long = λ told. cc;
@@ -67,14 +67,14 @@ memory_text text begun left whole short = record {
 memory_exit : {D : Type 0} (begun : D → Slot → Bool) (gives : D → List ℕ → Option (List ℕ)) (left : D → Slot → Option (List ℕ)) (faults : D → Slot → ℕ) (name : List ℕ) (before now : D)
     (bytes : Vec ℕ Global)
     → IfSome (gives before name) (λ text. ReadsText Profile text (left now Profile) (Ok bytes))
-    → length bytes.items ≤ MAX_TEXT
+    → length bytes.items ≤ greatest_text
     → OnlyProfile (begun now)
     → ProfilePromise begun gives left faults (Some name) before now Memory
 memory_exit begun gives left faults name before now bytes reads short only = record {
   unnamed = λ none. cc;
   text = IfSome_then (gives before name) reads (λ text read.
       memory_text text (begun now Profile) (left now Profile) read.read.1
-      (subst (λ (t : List ℕ). length t ≤ MAX_TEXT) (sym read.read.0) short));
+      (subst (λ (t : List ℕ). length t ≤ greatest_text) (sym read.read.0) short));
   alone = λ own. absurd own;
   unused = λ other outcome. only;
   stops = λ other outcome. inl refl;
@@ -85,7 +85,7 @@ memory_exit begun gives left faults name before now bytes reads short only = rec
 pub unread_exit : {D : Type 0} (begun : D → Slot → Bool) (gives : D → List ℕ → Option (List ℕ)) (left : D → Slot → Option (List ℕ)) (faults : D → Slot → ℕ) (name : List ℕ) (before now : D)
     (bytes : Vec ℕ Global) (fault : ProfileFault)
     → IfSome (gives before name) (λ text. ReadsText Profile text (left now Profile) (Ok bytes))
-    → length bytes.items ≤ MAX_TEXT
+    → length bytes.items ≤ greatest_text
     → (fault ≢ OutOfMemory → profile_of bytes.items ≡ Err fault)
     → OnlyProfile (begun now)
     → ProfilePromise begun gives left faults (Some name) before now (refusal_of fault)

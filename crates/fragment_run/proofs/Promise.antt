@@ -6,7 +6,7 @@ use Rattle.frag_io.specs.declared.desk.Slot.{Slot}
 use Rattle.frag_io.specs.declared.desk.Slot.TheVariants.{Spectra, Report}
 use Rattle.frag_io.specs.Desk.{IsEmpty, appended}
 use Rattle.mgf_reader.specs.declared.fault.MgfFault.{MgfFault}
-use Rattle.fragment_run.specs.declared.settings.TheConstants.{MAX_TEXT}
+use Rattle.fragment_run.specs.ProfilePromise.{greatest_text}
 use Rattle.fragment_run.specs.declared.status.Status.{Status}
 use Rattle.fragment_run.specs.declared.status.Status.TheVariants.{Memory, OpenFault, WriteFault, TooLong, MgfRefused}
 use Rattle.fragment_run.specs.ListPromise.{ListsText}
@@ -26,7 +26,7 @@ unread_fits slot text left status all other =
     subst (λ o. FitsLimit slot text o status) (sym all) ([], refl, (λ told. absurd (other told), λ more. absurd (omega arith)))
 
 -- of a text that was read whole and is short enough, no more was read than the limit
-pub read_fits : (slot : Slot) (text : List ℕ) (left : Option (List ℕ)) (status : Status) → left ≡ Some [] → length text ≤ MAX_TEXT → (status ≡ TooLong slot → ⊥) → FitsLimit slot text left status
+pub read_fits : (slot : Slot) (text : List ℕ) (left : Option (List ℕ)) (status : Status) → left ≡ Some [] → length text ≤ greatest_text → (status ≡ TooLong slot → ⊥) → FitsLimit slot text left status
 read_fits slot text left status whole short other =
     subst (λ o. FitsLimit slot text o status) (sym whole) (text, sym (append-nil text), (λ told. absurd (other told), λ more. absurd (omega arith)))
 
@@ -68,7 +68,7 @@ written_alone (Some old) now bytes P empty is holds =
 -- the exit where the report was not written whole
 pub unwritten : (settings : SettingsValue) (text : List ℕ) (begun : Bool) (left before report : Option (List ℕ)) (found : Option MgfFault) (bytes : List ℕ) (n : ℕ) (status : Status) {cause : Type 0}
     → (status ≡ Memory) ⊎ ((status ≡ WriteFault Report) × cause)
-    → length text ≤ MAX_TEXT
+    → length text ≤ greatest_text
     → IsReport settings text found bytes
     → left ≡ Some []
     → IsEmpty before
@@ -94,7 +94,7 @@ unwritten settings text begun left before report found bytes n status answer sho
 -- the exit where a line refuses the text, behind its report
 pub refused_end : (settings : SettingsValue) (text : List ℕ) (begun : Bool) (left before report : Option (List ℕ)) (found : Option MgfFault) (fault : MgfFault) (bytes : List ℕ)
     → found ≡ Some fault
-    → length text ≤ MAX_TEXT
+    → length text ≤ greatest_text
     → IsReport settings text found bytes
     → left ≡ Some []
     → IsEmpty before

@@ -6,7 +6,7 @@ use Rattle.frag_io.specs.declared.desk.Slot.{Slot}
 use Rattle.frag_io.specs.declared.whole.ReadWhole.{ReadWhole}
 use Rattle.frag_io.specs.declared.whole.ReadWhole.TheVariants as Read
 use Rattle.frag_io.specs.Whole.{ReadsWhole}
-use Rattle.fragment_run.specs.declared.settings.TheConstants.{MAX_TEXT}
+use Rattle.fragment_run.specs.ProfilePromise.{greatest_text}
 use Rattle.fragment_run.specs.declared.status.Status.{Status}
 use Rattle.fragment_run.specs.declared.status.Status.TheVariants.{TooLong}
 use Rattle.fragment_run.specs.ProfilePromise.{FitsLimit}
@@ -14,7 +14,7 @@ use Rattle.fragment_run.specs.Steps.{FitsRead, ReadsText}
 
 -- the limit fits a status that is too long exactly where the answer is
 limit_fits : (slot : Slot) (text : List ℕ) (left : Option (List ℕ)) (answer : Result (Vec ℕ Global) ReadWhole) (status : Status)
-    → ReadsWhole MAX_TEXT left answer text
+    → ReadsWhole greatest_text left answer text
     → (status ≡ TooLong slot → answer ≡ Err Read.TooLong)
     → (answer ≡ Err Read.TooLong → status ≡ TooLong slot)
     → FitsLimit slot text left status
@@ -27,7 +27,7 @@ limit_fits slot text left answer status reads to from =
 
 -- a text that was not read to its end, and not because of its length
 pub stopped_read : (slot : Slot) (text : List ℕ) (left : Option (List ℕ)) (fault : ReadWhole) (status : Status)
-    → ReadsWhole MAX_TEXT left (Err fault) text
+    → ReadsWhole greatest_text left (Err fault) text
     → FitsRead slot text status
     → (status ≡ TooLong slot → ⊥)
     → (fault ≡ Read.TooLong → ⊥)

@@ -9,17 +9,16 @@ use Rattle.fragment_run.specs.Causes.{HasFault, IsEnd}
 use Rattle.fragment_run.specs.Words.{Names}
 use Rattle.fragment_run.specs.Settings.{SettingsValue, settings_of}
 use Rattle.fragment_run.specs.Sections.{IsReport, IsReportPart}
-use Rattle.fragment_run.specs.ProfilePromise.{FitsLimit, ProfilePromise, outcome_of}
-use Rattle.fragment_run.specs.declared.settings.TheConstants.{MAX_TEXT}
+use Rattle.fragment_run.specs.ProfilePromise.{FitsLimit, ProfilePromise, greatest_text, outcome_of}
 use Rattle.fragment_run.specs.declared.status.Status.{Status}
 use Rattle.fragment_run.specs.declared.status.Status.TheVariants.{Done, Words, Memory, ReadFault, WriteFault, OpenFault, TooLong, MgfRefused, ProfileRefused}
 
 -- Which statuses a text allows. That there was no memory, and a fault of the outside before the text was read, may come at any text.
 abbrev pub FitsText : List ℕ → Status → Type 0
-FitsText text Done = (length text ≤ MAX_TEXT) × ((spectra : List SpectrumValue) × Reads text spectra None)
-FitsText text (MgfRefused fault) = (length text ≤ MAX_TEXT) × ((spectra : List SpectrumValue) × Reads text spectra (Some fault))
-FitsText text (WriteFault slot) = length text ≤ MAX_TEXT
-FitsText text (TooLong slot) = (slot ≡ Profile) ⊎ ((slot ≡ Spectra) × (MAX_TEXT < length text))
+FitsText text Done = (length text ≤ greatest_text) × ((spectra : List SpectrumValue) × Reads text spectra None)
+FitsText text (MgfRefused fault) = (length text ≤ greatest_text) × ((spectra : List SpectrumValue) × Reads text spectra (Some fault))
+FitsText text (WriteFault slot) = length text ≤ greatest_text
+FitsText text (TooLong slot) = (slot ≡ Profile) ⊎ ((slot ≡ Spectra) × (greatest_text < length text))
 FitsText text Words = ⊥
 FitsText text (ProfileRefused fault) = ⊥
 FitsText text Memory = ⊤
@@ -67,5 +66,5 @@ pub record ListPromise {D : Type 0} (begun : D → Slot → Bool) (gives : D →
   pub others : OnlyListSlots (begun now)
   pub opening : TextFirst (begun now)
   pub answers : (profile : ProfileValue) (text : List ℕ) → outcome_of (gives before) names.profile ≡ Some (Ok profile) → gives before names.spectra ≡ Some text
-      → IfSome (option_and_then (gives before) names.profile) (λ settings. length settings ≤ MAX_TEXT) → length text ≤ MAX_TEXT
+      → IfSome (option_and_then (gives before) names.profile) (λ settings. length settings ≤ greatest_text) → length text ≤ greatest_text
       → ((slot : Slot) → HasFault faults before now slot → ⊥) → IsAnswer status

@@ -6,7 +6,7 @@ use Rattle.element_table.specs.Rule.{Rule, fragment_rule_of}
 use Rattle.element_table.specs.Listed.{listed_of}
 use Rattle.adducts.specs.Adduct.{AdductValue}
 use Rattle.adducts.specs.declared.choice.Choice.{Choice}
-use Rattle.formula_lister.specs.declared.outcome.TheConstants.{MOST_FORMULAS}
+use Rattle.formula_lister.specs.Most.{most_formulas}
 use Rattle.profile.specs.Profile.{ProfileValue}
 
 -- the adduct, the width of windows and the number of selected peaks; the greatest count of each element; and the rules of a fragment
@@ -33,7 +33,7 @@ formulas_at settings mz = listed_of (window_at settings mz) settings.limits sett
 
 -- the list has more formulas than one may have
 abbrev pub has_too_many : SettingsValue → ℕ → Bool
-has_too_many settings mz = nat_lt MOST_FORMULAS (length (formulas_at settings mz))
+has_too_many settings mz = nat_lt most_formulas (length (formulas_at settings mz))
 
 -- the list of a peak, with its m/z and its intensity
 abbrev pub list_at : SettingsValue → ℕ → ℕ → FormulaListValue

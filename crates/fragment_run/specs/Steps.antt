@@ -7,12 +7,11 @@ use Rattle.frag_io.specs.Desk.{IsEmpty}
 use Rattle.frag_io.specs.declared.desk.DeskFault.{DeskFault}
 use Rattle.frag_io.specs.declared.desk.DeskFault.TheVariants.{Failed, OutOfMemory}
 use Rattle.profile.specs.declared.fault.ProfileFault.TheVariants as profile
-use Rattle.fragment_run.specs.declared.settings.TheConstants.{MAX_TEXT}
 use Rattle.fragment_run.specs.declared.status.Status.{Status}
 use Rattle.fragment_run.specs.declared.status.Status.TheVariants.{Done, Memory, ReadFault, WriteFault, OpenFault, TooLong, ProfileRefused}
 use Rattle.profile.specs.Profile.{ProfileValue}
 use Rattle.profile.specs.declared.fault.ProfileFault.{ProfileFault}
-use Rattle.fragment_run.specs.ProfilePromise.{FitsLimit, outcome_of}
+use Rattle.fragment_run.specs.ProfilePromise.{FitsLimit, greatest_text, outcome_of}
 
 -- only these two of a list's slots may have been begun
 abbrev pub OthersSame : (Slot → Bool) → (Slot → Bool) → Type 0
@@ -31,7 +30,7 @@ pub record IsReady {D : Type 0} (begun finished : D → Slot → Bool) (gives : 
 abbrev pub FitsRead : Slot → List ℕ → Status → Type 0
 FitsRead slot text Memory = ⊤
 FitsRead slot text (ReadFault other) = other ≡ slot
-FitsRead slot text (TooLong other) = (other ≡ slot) × (MAX_TEXT < length text)
+FitsRead slot text (TooLong other) = (other ≡ slot) × (greatest_text < length text)
 FitsRead slot text status = ⊥
 
 -- A text was read whole; else the status that it led to fits it.
@@ -47,7 +46,7 @@ status_of (Err status) = status
 -- A profile was taken: it is the one that its text gives, which was read whole and is no longer than the limit, or the default one.
 pub record IsTaken (gives : List ℕ → Option (List ℕ)) (name : Option (List ℕ)) (left : Option (List ℕ)) (profile : ProfileValue) : Type 0 where
   pub outcome : (outcome : Result ProfileValue ProfileFault) → outcome_of gives name ≡ Some outcome → outcome ≡ Ok profile
-  pub read : IfSome (option_and_then gives name) (λ text. (left ≡ Some []) × (length text ≤ MAX_TEXT))
+  pub read : IfSome (option_and_then gives name) (λ text. (left ≡ Some []) × (length text ≤ greatest_text))
 
 -- what a run answers where no profile was read
 abbrev pub refusal_of : ProfileFault → Status

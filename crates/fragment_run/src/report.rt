@@ -5,12 +5,13 @@ ghost use Rattle.mgf_reader.specs.Grammar.{Reads};
 ghost use Rattle.mgf_reader.specs.Stands.{Stands};
 ghost use Rattle.fragment_run.specs.ListForm.{Section, section_lines};
 ghost use Rattle.fragment_run.specs.Sections.{AreSections, IsReport};
+ghost use Rattle.fragment_run.specs.ProfilePromise.{greatest_text};
 ghost use Rattle.fragment_run.specs.SettingsOf.{value_of};
 ghost use Rattle.valence_filter.specs.Sieve.{IsSieve};
 
 use crate::form::push_ending;
 use crate::section::push_section;
-use crate::settings::{MAX_TEXT, Settings};
+use crate::settings::Settings;
 use element_table::Formula;
 use mgf_reader::{FeedFault, MgfFault, Reader};
 use std::alloc::{AllocError, Global};
@@ -21,7 +22,7 @@ pub fn report_of<F: Fn(&Formula) -> bool>(
     text: &[u8],
     settings: &Settings<F>,
 ) -> Result<(Vec<u8>, Option<MgfFault>), AllocError>
-    requires short { length text.now ≤ MAX_TEXT }
+    requires short { length text.now ≤ greatest_text }
     requires sieve { IsSieve F.pre F.post settings.now.sieve }
     ensures { IfOk result (λ made. IsReport (value_of settings.now) text.now made.1 made.0.items) }
 {
@@ -38,7 +39,7 @@ fn read_all(reader: &mut Reader, text: &[u8]) -> Result<Option<MgfFault>, AllocE
     requires new { Stands reader.old [] [] }
     requires unfed { reader.old.fed ≡ 0 }
     requires open { reader.old.ended ≡ false }
-    requires short { length text.now ≤ MAX_TEXT }
+    requires short { length text.now ≤ greatest_text }
     ensures { IfOk result (λ fault. Reads text.now reader.new.waiting fault) }
 {
     // What a feed answers, the end answers again.

@@ -4,6 +4,7 @@ ghost use Rattle.frag_io.specs.declared.desk.Slot.TheVariants.{Report};
 ghost use Rattle.frag_io.specs.Slot.{Gains, IsRead, IsWritten, Same};
 ghost use Rattle.frag_io.specs.Desk.{appended, IsEmpty, Keeps};
 ghost use Rattle.fragment_run.specs.Causes.{HasFault};
+ghost use Rattle.fragment_run.specs.ProfilePromise.{greatest_text};
 ghost use Rattle.fragment_run.specs.Steps.{IsOpenAnswer, IsReadAnswer, ReadsText, write_status_of};
 
 use crate::settings::MAX_TEXT;
@@ -41,7 +42,7 @@ pub fn read_text<D: Desk>(alloc: Global, desk: &mut D, slot: Slot) -> Result<Vec
     requires read { IsRead slot }
     requires begun { D.begun desk.old slot ≡ true }
     ensures text { IfSome (D.left desk.old slot) (λ text. ReadsText slot text (D.left desk.new slot) result) }
-    ensures short { IfOk result (λ text. length text.items ≤ MAX_TEXT) }
+    ensures short { IfOk result (λ text. length text.items ≤ greatest_text) }
     ensures begun { Same (D.begun desk.old) (D.begun desk.new) }
     ensures finished { Same (D.finished desk.old) (D.finished desk.new) }
     ensures keeps { Keeps D.gives D.left D.written D.faults slot desk.old desk.new }

@@ -3,7 +3,7 @@ use Rattle.std.proofs.lemmas.Result.{err_from_is_err_and}
 use Rattle.std.proofs.lemmas.Option.{MatchOption-at_some}
 use Rattle.frag_io.specs.Desk.{IsEmpty}
 use Rattle.frag_io.specs.declared.desk.Slot.TheVariants.{Spectra, Report}
-use Rattle.fragment_run.specs.declared.settings.TheConstants.{MAX_TEXT}
+use Rattle.fragment_run.specs.ProfilePromise.{greatest_text}
 use Rattle.fragment_run.proofs.Promise.{at_some, refused_end, unopened, unwritten}
 use Rattle.fragment_run.proofs.list.list_steps.Goals as goal
 
@@ -24,7 +24,7 @@ returns-in_err-write_report-clause-text g c =
     let whole = reads.read.0 ∙ sym c.deref.ensures.value in
     unwritten _ text _ _ _ _ c.in_ok-report.fault c.deref-2.result.now part.0 _
     c.in_err-write_report.ensures.fault
-    (subst (λ (t : List ℕ). length t ≤ MAX_TEXT) (sym reads.read.0) c.in_ok-text.ensures.short)
+    (subst (λ (t : List ℕ). length t ≤ greatest_text) (sym reads.read.0) c.in_ok-text.ensures.short)
     (rw (whole, c.deref-2.ensures.value) c.in_ok-report.ensures)
     (c.write_report.ensures.keeps.others_left Spectra (λ same. cc) ∙ reads.read.1)
     (subst IsEmpty (sym (c.read_text.ensures.keeps.others_written Report (λ same. cc))) ready.empty)
@@ -37,7 +37,7 @@ returns-clause-text g c =
     let reads = MatchOption-at_some _ _ text (ready.text ∙ told) c.in_ok-text.ensures.text in
     let whole = reads.read.0 ∙ sym c.deref.ensures.value in
     refused_end _ text _ _ _ _ c.in_ok-report.fault c.in-Some.fault c.deref-2.result.now c.in-Some.is
-    (subst (λ (t : List ℕ). length t ≤ MAX_TEXT) (sym reads.read.0) c.in_ok-text.ensures.short)
+    (subst (λ (t : List ℕ). length t ≤ greatest_text) (sym reads.read.0) c.in_ok-text.ensures.short)
     (rw (whole, c.deref-2.ensures.value) c.in_ok-report.ensures)
     (c.write_report.ensures.keeps.others_left Spectra (λ same. cc) ∙ reads.read.1)
     (subst IsEmpty (sym (c.read_text.ensures.keeps.others_written Report (λ same. cc))) ready.empty)

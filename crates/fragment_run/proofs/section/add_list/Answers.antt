@@ -1,7 +1,7 @@
 use Rattle.std.proofs.Common.{◌≡◌, ◌∙◌, ◌≤◌, ◌++◌, ◌∷◌, [], false, not, List, ℕ, length, nat_lt, ap, sym, subst, arith}
 use Rattle.std.proofs.lemmas.Bool.Decides.{nat_tests}
 use Rattle.element_table.specs.Listed.{listed_of}
-use Rattle.formula_lister.specs.declared.outcome.TheConstants.{MOST_FORMULAS}
+use Rattle.formula_lister.specs.Most.{most_formulas}
 use Rattle.fragment_run.specs.Settings.{formulas_at}
 use Rattle.fragment_run.specs.SettingsOf.{value_of}
 use Rattle.fragment_run.proofs.section.add_list.Goals as goal
@@ -12,8 +12,8 @@ returns-in_ok-push-in-Ok-clause-told g c =
     let list : c.in-Ok.formulas.items ≡ formulas_at settings c.args.mz =
     c.in-Ok.ensures.filter ∙ ap (λ window. listed_of window settings.limits settings.rules) c.window.ensures
     in
-    let few : length (formulas_at settings c.args.mz) ≤ MOST_FORMULAS = subst (λ (formulas : List (List ℕ)). length formulas ≤ MOST_FORMULAS) list c.in-Ok.ensures.few in
-    let not_more : nat_lt MOST_FORMULAS (length (formulas_at settings c.args.mz)) ≡ false = grind (arith, nat_tests) in
+    let few : length (formulas_at settings c.args.mz) ≤ most_formulas = subst (λ (formulas : List (List ℕ)). length formulas ≤ most_formulas) list c.in-Ok.ensures.few in
+    let not_more : nat_lt most_formulas (length (formulas_at settings c.args.mz)) ≡ false = grind (arith, nat_tests) in
     sym (ap not not_more)
 
 pub returns-in_ok-push-in-Ok-clause-lists : goal.returns-in_ok-push-in-Ok-clause-lists
