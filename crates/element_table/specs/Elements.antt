@@ -1,14 +1,34 @@
--- The columns of the element table, an item for each place.
-use Rattle.std.specs.Prelude.{ℕ, List, map}
-use Rattle.element_table.specs.declared.elements.TheConstants.{ELEMENTS}
+-- The element table: a column for each thing that is said of an element, and the greatest numbers of formulas.
+use Rattle.std.specs.Prelude.{ℕ, List, [], ◌∷◌, codes}
 
+-- how many elements the table has
+abbrev pub element_count : ℕ
+element_count = 11
+
+-- how many counts a formula has; the places past the table's elements are free
+abbrev pub formula_places : ℕ
+formula_places = 16
+
+-- the greatest count of an element in a formula
+abbrev pub greatest_count : ℕ
+greatest_count = 1999
+
+-- the mass of the heaviest atom, which is iodine, in units of 10^-7 Da
+abbrev pub heaviest_atom : ℕ
+heaviest_atom = 1269044719
+
+-- the symbols, in the order of the table
 abbrev pub symbols : List (List ℕ)
-symbols = map (λ element. element.0.now) ELEMENTS
+symbols =
+    codes "H" ∷ codes "C" ∷ codes "N" ∷ codes "O" ∷ codes "P" ∷ codes "S"
+    ∷ codes "F" ∷ codes "Cl" ∷ codes "Br" ∷ codes "I" ∷ codes "Si" ∷ []
 
--- in units of 10^-7 Da
+-- the mass of the lightest stable isotope of each element, in units of 10^-7 Da
 abbrev pub masses : List ℕ
-masses = map (λ element. element.1) ELEMENTS
+masses =
+    10078250 ∷ 120000000 ∷ 140030740 ∷ 159949146 ∷ 309737620 ∷ 319720712
+    ∷ 189984032 ∷ 349688527 ∷ 789183376 ∷ 1269044719 ∷ 279769265 ∷ []
 
 -- how many bonds each element forms
 abbrev pub valences : List ℕ
-valences = map (λ element. element.2) ELEMENTS
+valences = 1 ∷ 4 ∷ 3 ∷ 2 ∷ 3 ∷ 2 ∷ 1 ∷ 1 ∷ 1 ∷ 1 ∷ 4 ∷ []

@@ -3,18 +3,17 @@ use Rattle.std.specs.Prelude.{◌≡◌, ◌≢◌, ◌≤◌, ◌+◌, ◌-◌,
 use Rattle.std.specs.declared.cmp.Ordering.{Ordering}
 use Rattle.std.specs.Cmp.Lexicographic.{slice_cmp}
 use Rattle.std.specs.Ordering.{nat_cmp}
-use Rattle.element_table.specs.declared.elements.TheConstants.{PLACES, MAX_COUNT, ELEMENTS}
-use Rattle.element_table.specs.Elements.{masses}
+use Rattle.element_table.specs.Elements.{element_count, formula_places, greatest_count, heaviest_atom, masses}
 
 -- what every formula is: a count for each place, none too great, and none at a place without an element
 pub record IsFormula (counts : List ℕ) : Type 0 where
-  pub places : length counts ≡ PLACES
-  pub capped : (place : ℕ) → slice_index counts place ≤ MAX_COUNT
-  pub elements : (place : ℕ) → length ELEMENTS ≤ place → slice_index counts place ≡ 0
+  pub places : length counts ≡ formula_places
+  pub capped : (place : ℕ) → slice_index counts place ≤ greatest_count
+  pub elements : (place : ℕ) → element_count ≤ place → slice_index counts place ≡ 0
 
 -- no atom at all
 abbrev pub empty_formula : List ℕ
-empty_formula = replicate PLACES 0
+empty_formula = replicate formula_places 0
 
 -- the sum of each number times the one at its place
 abbrev pub weighted_sum : List ℕ → List ℕ → ℕ
@@ -24,6 +23,10 @@ weighted_sum counts weights = 0
 -- the mass of a formula, in units of 10^-7 Da
 abbrev pub mass_of : List ℕ → ℕ
 mass_of counts = weighted_sum counts masses
+
+-- no formula weighs more: the greatest count of the heaviest atom for each element
+abbrev pub greatest_mass : ℕ
+greatest_mass = element_count * (greatest_count * heaviest_atom)
 
 -- a part of a whole: each count is at most the whole's
 abbrev pub IsWithin : List ℕ → List ℕ → Type 0

@@ -4,9 +4,8 @@ use Rattle.std.specs.Char.{is_ascii_lowercase, is_ascii_uppercase}
 use Rattle.std.specs.List.{before_first, list_all, list_any}
 use Rattle.std.specs.Str.{all_ascii_digits, bytes_eq}
 use Rattle.std.specs.Str.Parse.{digits_value}
-use Rattle.element_table.specs.Elements.{symbols}
+use Rattle.element_table.specs.Elements.{symbols, element_count, greatest_count, formula_places}
 use Rattle.element_table.specs.Formula.{empty_formula}
-use Rattle.element_table.specs.declared.elements.TheConstants.{ELEMENTS, MAX_COUNT, PLACES}
 use Rattle.element_table.specs.declared.reading.FormulaFault.{FormulaFault}
 use Rattle.element_table.specs.declared.reading.FormulaFault.TheVariants.{NoFormula, UnknownElement, CountTooLarge}
 
@@ -54,13 +53,13 @@ total_of pieces element = sum_by (λ piece. share_of element (symbol_of piece) (
 
 -- the same by places; a place without an element has none
 abbrev pub totals_of : List (List ℕ) → List ℕ
-totals_of pieces = map (λ element. total_of pieces element) symbols ++ replicate (PLACES - length ELEMENTS) 0
+totals_of pieces = map (λ element. total_of pieces element) symbols ++ replicate (formula_places - element_count) 0
 
 -- the formula of pieces of the right form, or the first reason why they have none
 abbrev pub formula_of_pieces : List (List ℕ) → Result (List ℕ) FormulaFault
 formula_of_pieces pieces =
     if not (list_all (λ piece. is_known (symbol_of piece)) pieces) then Err UnknownElement
-    else (if not (list_all (λ total. nat_le total MAX_COUNT) (totals_of pieces)) then Err CountTooLarge else Ok (totals_of pieces))
+    else (if not (list_all (λ total. nat_le total greatest_count) (totals_of pieces)) then Err CountTooLarge else Ok (totals_of pieces))
 
 -- The formula of a text. A dash writes the empty one.
 unfoldable pub formula_of : List ℕ → Result (List ℕ) FormulaFault

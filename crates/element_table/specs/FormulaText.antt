@@ -3,6 +3,10 @@ use Rattle.std.specs.Prelude.{◌++◌, ℕ, List, [], ◌∷◌, slice_index, s
 use Rattle.std.specs.List.{flat_map, list_all}
 use Rattle.element_table.specs.Elements.{symbols}
 
+-- how many bytes a spelling may have
+abbrev pub greatest_formula_text : ℕ
+greatest_formula_text = 96
+
 -- the places in the order of print: carbon, hydrogen, and the others as in the table
 abbrev pub printed_places : List ℕ
 printed_places = 1 ∷ 0 ∷ 2 ∷ 3 ∷ 4 ∷ 5 ∷ 6 ∷ 7 ∷ 8 ∷ 9 ∷ 10 ∷ []

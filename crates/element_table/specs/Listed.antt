@@ -3,14 +3,14 @@ use Rattle.std.specs.Prelude.{◌≡◌, ◌+◌, ◌↔◌, ℕ, ℤ, pos, ◌+
 use Rattle.std.specs.List.{AllPairs, Contains, filter, flat_map, list_all, range_with_len}
 use Rattle.std.specs.Ordering.{int_eq}
 use Rattle.std.specs.declared.cmp.Ordering.TheVariants.{Less}
-use Rattle.element_table.specs.declared.elements.TheConstants.{PLACES}
+use Rattle.element_table.specs.Elements.{formula_places}
 use Rattle.element_table.specs.Formula.{IsWithin, formula_cmp, mass_of}
 use Rattle.element_table.specs.Window.{Window, InWindow}
 use Rattle.element_table.specs.Rule.{Rule, Parity, any, even, odd, Passes, value_of}
 
 -- a formula with every count at most its limit that is in the window and passes the rules
 pub record IsAllowed (window : Window) (limits : List ℕ) (rules : List Rule) (counts : List ℕ) : Type 0 where
-  pub places : length counts ≡ PLACES
+  pub places : length counts ≡ formula_places
   pub within_limits : IsWithin counts limits
   pub in_window : InWindow window counts
   pub passes : Passes rules counts

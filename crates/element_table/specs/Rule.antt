@@ -1,8 +1,7 @@
 -- The rules that a formula may have to pass.
 use Rattle.std.specs.Prelude.{◌≡◌, ◌≢◌, ◌-◌, ◌++◌, ℕ, ℤ, pos, ◌+ℤ◌, ◌-ℤ◌, ◌*ℤ◌, ◌≤ℤ◌, neg_ℤ, int_rem, List, ◌∷◌, length, map, replicate, slice_index_or, ⊤}
 use Rattle.std.specs.List.{AllByRecursion}
-use Rattle.element_table.specs.Elements.{valences}
-use Rattle.element_table.specs.declared.elements.TheConstants.{ELEMENTS, PLACES}
+use Rattle.element_table.specs.Elements.{valences, element_count, formula_places}
 
 pub data Parity : Type 0 where
   any : Parity
@@ -39,7 +38,7 @@ Passes rules counts = AllByRecursion (λ rule. Holds rule counts) rules
 
 -- what an atom adds to twice the number of rings and double bonds, by places; a place without an element adds nothing
 abbrev pub bond_coefficients : List ℤ
-bond_coefficients = map (λ valence. pos valence -ℤ pos 2) valences ++ replicate (PLACES - length ELEMENTS) (pos 0)
+bond_coefficients = map (λ valence. pos valence -ℤ pos 2) valences ++ replicate (formula_places - element_count) (pos 0)
 
 -- twice the ring and double bond equivalent, which is the number of rings and double bonds
 abbrev pub rdbe2_of : List ℕ → ℤ
@@ -59,6 +58,6 @@ IsNearZero most z = (neg_ℤ (pos most) ≤ℤ z) × (z ≤ℤ pos most)
 
 -- what every rule is that a program holds: a coefficient for each place, none too far from 0, and a constant that is not either
 pub record IsRule (rule : Rule) : Type 0 where
-  pub places : length rule.coefficients ≡ PLACES
+  pub places : length rule.coefficients ≡ formula_places
   pub coefficients : (place : ℕ) → IsNearZero 1000 (slice_index_or rule.coefficients place (pos 0))
   pub constant : IsNearZero 1000000 rule.constant

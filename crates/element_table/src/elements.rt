@@ -1,6 +1,6 @@
 //! The element table.
 ghost use Rattle.std.specs.Prelude.{◌≡◌, ◌≤◌, ◌<◌, [], length, slice_index, slice_index_or};
-ghost use Rattle.element_table.specs.Elements.{masses, symbols};
+ghost use Rattle.element_table.specs.Elements.{element_count, masses, symbols};
 
 /// The elements that a formula may hold, each at its place: the symbol, the mass of the lightest stable isotope in
 /// units of 10^-7 Da, and the number of bonds that it forms.
@@ -19,15 +19,15 @@ pub const ELEMENTS: [(&str, u64, u8); 11] = [
 ];
 
 /// How many counts a formula has. The places past the table's elements are free.
-pub const PLACES: usize = 16;
+pub const FORMULA_PLACES: usize = 16;
 
 /// The greatest count of an element in a formula.
-pub const MAX_COUNT: u16 = 1_999;
+pub const GREATEST_COUNT: u16 = 1_999;
 
 /// The mass of the element at a place, in units of 10^-7 Da.
 #[inline]
 pub(crate) fn mass_at(place: usize) -> u64
-    requires { place < length ELEMENTS }
+    requires { place < element_count }
     ensures { result ≡ slice_index masses place }
 {
     ELEMENTS[place].1
@@ -35,7 +35,7 @@ pub(crate) fn mass_at(place: usize) -> u64
 
 /// The symbol of the element at a place.
 pub(crate) fn symbol_at(place: usize) -> &'static str
-    requires { place < length ELEMENTS }
+    requires { place < element_count }
     ensures symbol { result.now ≡ slice_index_or symbols place [] }
     ensures short { length result.now ≤ 2 }
 {

@@ -1,16 +1,17 @@
 //! A formula as its counts, and what is computed from them.
 ghost use Rattle.std.specs.Prelude.{◌≡◌, ◌≤◌, ◌<◌, ◌+◌, ◌*◌, ◌↔◌, ◌==◌, ℕ, List, IsTrue, length, slice_index, slice_set};
 ghost use Rattle.std.specs.List.{list_all};
-ghost use Rattle.element_table.specs.Formula.{IsFormula, empty_formula, mass_of, IsWithin, loss_of, union_of, formula_cmp};
+ghost use Rattle.element_table.specs.Elements.{element_count, formula_places, greatest_count};
+ghost use Rattle.element_table.specs.Formula.{IsFormula, empty_formula, greatest_mass, mass_of, IsWithin, loss_of, union_of, formula_cmp};
 
-use crate::elements::{ELEMENTS, MAX_COUNT, PLACES, mass_at};
+use crate::elements::{ELEMENTS, FORMULA_PLACES, GREATEST_COUNT, mass_at};
 use std::cmp::Ordering;
 use std::marker::Model;
 
 /// A molecular formula: how many atoms it has of each element of the table, by places.
 #[derive(Clone, Copy, Debug, PartialEq, Eq, PartialOrd, Ord, Hash)]
 pub struct Formula {
-    counts: [u16; PLACES],
+    counts: [u16; FORMULA_PLACES],
 }
 
 impl Model for Formula {
@@ -29,12 +30,12 @@ impl Formula {
         ensures { result ≡ empty_formula }
     {
         Formula {
-            counts: [0; PLACES],
+            counts: [0; FORMULA_PLACES],
         }
     }
 
     /// The formula of these counts.
-    pub(crate) fn of_counts(counts: [u16; PLACES]) -> Formula
+    pub(crate) fn of_counts(counts: [u16; FORMULA_PLACES]) -> Formula
         requires { IsFormula counts }
         ensures { result ≡ counts }
     {
@@ -50,9 +51,9 @@ impl Formula {
 
     /// The count at a place.
     pub fn count(&self, place: usize) -> u16
-        requires { place < PLACES }
+        requires { place < formula_places }
         ensures count { result ≡ slice_index self.now place }
-        ensures capped { result ≤ MAX_COUNT }
+        ensures capped { result ≤ greatest_count }
         ensures formula { IsFormula self.now }
     {
         self.counts[place]
@@ -60,8 +61,8 @@ impl Formula {
 
     /// The formula with another count at one place.
     pub fn with(&self, place: usize, count: u16) -> Formula
-        requires element { place < length ELEMENTS }
-        requires capped { count ≤ MAX_COUNT }
+        requires element { place < element_count }
+        requires capped { count ≤ greatest_count }
         ensures { result ≡ slice_set self.now place count }
     {
         let mut counts = self.counts;
@@ -72,7 +73,7 @@ impl Formula {
     /// The mass, in units of 10^-7 Da.
     pub fn mass(&self) -> u64
         ensures mass { result ≡ mass_of self.now }
-        ensures light { result ≤ 11 * (1999 * 1269044719) }
+        ensures light { result ≤ greatest_mass }
     {
         let mut mass = 0;
         for place in 0..ELEMENTS.len() {
@@ -105,7 +106,7 @@ impl Formula {
 
     /// This formula and another together.
     pub fn plus(&self, other: &Formula) -> Formula
-        requires { (place : ℕ) → slice_index self.now place + slice_index other.now place ≤ MAX_COUNT }
+        requires { (place : ℕ) → slice_index self.now place + slice_index other.now place ≤ greatest_count }
         ensures { result ≡ union_of self.now other.now }
     {
         let mut counts = self.counts;

@@ -3,14 +3,13 @@ ghost use Rattle.std.specs.Prelude.{◌≡◌, ◌≢◌, ◌↔◌, ◌≤ℤ�
 ghost use Rattle.std.specs.List.{AllPairs};
 ghost use Rattle.std.specs.List.Sorted.{IsPermutation, IsSorted};
 ghost use Rattle.std.specs.declared.cmp.Ordering.TheVariants.{Less};
+ghost use Rattle.element_table.specs.Elements.{formula_places};
 ghost use Rattle.element_table.specs.Formula.{IsFormula, formula_cmp};
 ghost use Rattle.element_table.specs.FormulaReading.{formula_of};
 ghost use Rattle.element_table.specs.FormulaText.{formula_text};
 ghost use Rattle.element_table.specs.Listed.{Listed, is_in_window, listed_of, passes};
 ghost use Rattle.element_table.specs.Rule.{HasParity, Holds, Passes, Rule, even, fragment_rule_of, neutral_rule_of, rdbe2_of};
 ghost use Rattle.element_table.specs.Window.{InWindow, Window};
-
-use crate::elements::PLACES;
 
 /// The tests of a formula answer whether the facts that they are named for hold.
 pub fn the_tests_decide()
@@ -27,9 +26,9 @@ pub fn the_rules_speak_of_bonds()
 
 /// The list of a window is the filter of all count lists within the limits, and there is no other such list.
 pub fn the_list_is_a_filter()
-    ensures is_listed { (window : Window) (limits : List ℕ) (rules : List Rule) → length limits ≡ PLACES
+    ensures is_listed { (window : Window) (limits : List ℕ) (rules : List Rule) → length limits ≡ formula_places
         → Listed window limits rules (listed_of window limits rules) }
-    ensures only_one { (window : Window) (limits : List ℕ) (rules : List Rule) (formulas : List (List ℕ)) → length limits ≡ PLACES
+    ensures only_one { (window : Window) (limits : List ℕ) (rules : List Rule) (formulas : List (List ℕ)) → length limits ≡ formula_places
         → Listed window limits rules formulas → formulas ≡ listed_of window limits rules }
 {}
 

@@ -8,7 +8,7 @@ mod laws;
 mod reading;
 mod text;
 
-pub use elements::{ELEMENTS, MAX_COUNT, PLACES};
+pub use elements::{ELEMENTS, FORMULA_PLACES, GREATEST_COUNT};
 pub use formula::Formula;
 pub use formula_list::{FormulaList, Formulas};
 pub use laws::{
@@ -16,7 +16,7 @@ pub use laws::{
     the_tests_decide,
 };
 pub use reading::{FormulaFault, read_formula};
-pub use text::{FormulaText, MAX_TEXT, print_formula};
+pub use text::{FormulaText, GREATEST_FORMULA_TEXT, print_formula};
 
 #[cfg(test)]
 mod tests;

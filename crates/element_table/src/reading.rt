@@ -2,10 +2,10 @@
 ghost use Rattle.std.specs.Prelude.{◌≡◌, ◌≤◌, ◌<◌, ◌+◌, ◌&&◌, [], ◌∷◌, ℕ, None, Some, drop, if◌then◌else◌, length, min, nat_le, nat_lt, slice_index, slice_index_or};
 ghost use Rattle.std.specs.Char.{is_ascii_uppercase};
 ghost use Rattle.std.specs.List.{before_first, list_all, position, position_or_len};
-ghost use Rattle.element_table.specs.Elements.{symbols};
+ghost use Rattle.element_table.specs.Elements.{element_count, greatest_count, symbols};
 ghost use Rattle.element_table.specs.FormulaReading.{count_of, digits_of, formula_of, is_count, is_known, share_of, symbol_of};
 
-use crate::elements::{ELEMENTS, MAX_COUNT, PLACES, symbol_at};
+use crate::elements::{ELEMENTS, FORMULA_PLACES, GREATEST_COUNT, symbol_at};
 use crate::formula::Formula;
 
 /// Why a text is no formula.
@@ -20,7 +20,7 @@ pub enum FormulaFault {
 }
 
 /// A number of atoms that no formula may have: every greater one is taken for it.
-const TOO_MANY: u16 = MAX_COUNT + 1;
+const TOO_MANY: u16 = GREATEST_COUNT + 1;
 
 /// Reads a formula: `-` for the empty one, or symbols of elements, each with an optional count. A symbol is a capital letter
 /// with at most one small letter after it, a count is digits of which the first is no zero. The counts of an element add up.
@@ -34,7 +34,7 @@ pub fn read_formula(text: &[u8]) -> Result<Formula, FormulaFault>
     if !begins_piece(text) {
         return Err(FormulaFault::NoFormula);
     }
-    let mut totals = [0; PLACES];
+    let mut totals = [0; FORMULA_PLACES];
     let mut all_known = true;
     let mut rest = text;
     while !rest.is_empty() {
@@ -118,13 +118,13 @@ fn read_count(digits: &[u8]) -> Option<u16>
 }
 
 // Adds so many atoms of a symbol to the totals, none of which becomes more than too many. Whether the symbol is known.
-fn add(totals: &mut [u16; PLACES], symbol: &[u8], count: u16) -> bool
+fn add(totals: &mut [u16; FORMULA_PLACES], symbol: &[u8], count: u16) -> bool
     requires count { count ≤ TOO_MANY }
     requires totals { (place : ℕ) → slice_index totals.old place ≤ TOO_MANY }
     ensures known { result ≡ is_known symbol.now }
-    ensures added { (place : ℕ) → place < length ELEMENTS → slice_index totals.new place
+    ensures added { (place : ℕ) → place < element_count → slice_index totals.new place
         ≡ min TOO_MANY (slice_index totals.old place + share_of (slice_index_or symbols place []) symbol.now count) }
-    ensures others { (place : ℕ) → length ELEMENTS ≤ place → slice_index totals.new place ≡ slice_index totals.old place }
+    ensures others { (place : ℕ) → element_count ≤ place → slice_index totals.new place ≡ slice_index totals.old place }
 {
     let mut known = false;
     for place in 0..ELEMENTS.len() {
@@ -137,8 +137,8 @@ fn add(totals: &mut [u16; PLACES], symbol: &[u8], count: u16) -> bool
 }
 
 // Whether a formula may have these counts.
-fn all_fit(totals: &[u16; PLACES]) -> bool
-    ensures { result ≡ list_all (λ total. nat_le total MAX_COUNT) totals.now }
+fn all_fit(totals: &[u16; FORMULA_PLACES]) -> bool
+    ensures { result ≡ list_all (λ total. nat_le total greatest_count) totals.now }
 {
-    totals.iter().all(|total| *total <= MAX_COUNT)
+    totals.iter().all(|total| *total <= GREATEST_COUNT)
 }

@@ -1,8 +1,8 @@
 //! Worked examples of formulas.
 use crate::{
-    ELEMENTS, Formula, FormulaFault, FormulaList, Formulas, MAX_COUNT, print_formula, read_formula,
-    reading_undoes_printing, sorted_formulas_rise, the_list_is_a_filter, the_rules_speak_of_bonds,
-    the_tests_decide,
+    ELEMENTS, Formula, FormulaFault, FormulaList, Formulas, GREATEST_COUNT, print_formula,
+    read_formula, reading_undoes_printing, sorted_formulas_rise, the_list_is_a_filter,
+    the_rules_speak_of_bonds, the_tests_decide,
 };
 use std::cmp::Ordering;
 use std::test::Fail;
@@ -64,7 +64,7 @@ fn keeps_the_formulas_of_a_peak(rt: HostRuntime) -> Result<(), Fail> {
 fn spells_formulas(rt: HostRuntime) {
     let full = [0, 1, 2, 3, 4, 5, 6, 7, 8, 9, 10].iter().fold(
         Formula::empty(),
-        |formula, place| formula.with(*place, MAX_COUNT),
+        |formula, place| formula.with(*place, GREATEST_COUNT),
     );
     let cases: [(Formula, &str); 8] = [
         (Formula::empty(), "-"),

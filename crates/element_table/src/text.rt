@@ -1,16 +1,17 @@
 //! The one spelling of a formula.
 ghost use Rattle.std.specs.Prelude.{◌≡◌, ◌≤◌, ◌<◌, ◌+◌, ◌++◌, ℕ, List, length};
 ghost use Rattle.arrayvec.specs.ArrayVec.{array_vec_len};
-ghost use Rattle.element_table.specs.FormulaText.{element_text, formula_text};
+ghost use Rattle.element_table.specs.Elements.{element_count};
+ghost use Rattle.element_table.specs.FormulaText.{element_text, formula_text, greatest_formula_text};
 
-use crate::elements::{ELEMENTS, MAX_COUNT, symbol_at};
+use crate::elements::{ELEMENTS, GREATEST_COUNT, symbol_at};
 use crate::formula::Formula;
 use arrayvec::ArrayVec;
 use itoa::Buffer;
 use std::marker::Model;
 
 /// How many bytes a formula's spelling may have.
-pub const MAX_TEXT: usize = 96;
+pub const GREATEST_FORMULA_TEXT: usize = 96;
 
 /// The places in the order of print: carbon, hydrogen, and the others as in the table.
 const PRINTED_PLACES: [usize; 11] = [1, 0, 2, 3, 4, 5, 6, 7, 8, 9, 10];
@@ -18,7 +19,7 @@ const PRINTED_PLACES: [usize; 11] = [1, 0, 2, 3, 4, 5, 6, 7, 8, 9, 10];
 /// The spelling of a formula, of at most 96 bytes.
 #[derive(Drop)]
 pub struct FormulaText {
-    bytes: ArrayVec<u8, MAX_TEXT>,
+    bytes: ArrayVec<u8, GREATEST_FORMULA_TEXT>,
 }
 
 impl Model for FormulaText {
@@ -31,7 +32,7 @@ impl FormulaText {
     /// The bytes of the spelling.
     pub fn items(&self) -> &[u8]
         ensures bytes { result.now ≡ self.now }
-        ensures short { length self.now ≤ MAX_TEXT }
+        ensures short { length self.now ≤ greatest_formula_text }
     {
         self.bytes.as_slice()
     }
@@ -54,9 +55,9 @@ pub fn print_formula(formula: &Formula) -> FormulaText
 }
 
 /// Appends an element's part of the spelling.
-fn append_element(bytes: &mut ArrayVec<u8, MAX_TEXT>, place: usize, count: u16)
-    requires element { place < length ELEMENTS }
-    requires room { array_vec_len bytes.old + 7 ≤ MAX_TEXT }
+fn append_element(bytes: &mut ArrayVec<u8, GREATEST_FORMULA_TEXT>, place: usize, count: u16)
+    requires element { place < element_count }
+    requires room { array_vec_len bytes.old + 7 ≤ greatest_formula_text }
     ensures text { bytes.new.items ≡ bytes.old.items ++ element_text place count }
     ensures short { array_vec_len bytes.new ≤ array_vec_len bytes.old + 7 }
 {
@@ -70,8 +71,8 @@ fn append_element(bytes: &mut ArrayVec<u8, MAX_TEXT>, place: usize, count: u16)
 }
 
 /// Appends bytes for which there is room.
-fn append(bytes: &mut ArrayVec<u8, MAX_TEXT>, part: &[u8])
-    requires { array_vec_len bytes.old + length part.now ≤ MAX_TEXT }
+fn append(bytes: &mut ArrayVec<u8, GREATEST_FORMULA_TEXT>, part: &[u8])
+    requires { array_vec_len bytes.old + length part.now ≤ greatest_formula_text }
     ensures { bytes.new.items ≡ bytes.old.items ++ part.now }
 {
     for byte in part {

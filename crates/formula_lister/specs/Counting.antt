@@ -1,7 +1,7 @@
 -- What the parts of the lister say of counts, and of the list that they add to.
 use Rattle.std.specs.Prelude.{◌≡◌, ◌≢◌, ◌≤◌, ◌<◌, ◌+◌, ◌*◌, ◌↔◌, ℕ, List, [], ◌∷◌, ◌++◌, length, slice_index}
 use Rattle.std.specs.List.{AllPairs, Contains}
-use Rattle.element_table.specs.declared.elements.TheConstants.{PLACES}
+use Rattle.element_table.specs.Elements.{formula_places}
 use Rattle.element_table.specs.Formula.{IsWithin, mass_of}
 use Rattle.element_table.specs.Rule.{Rule, Passes}
 use Rattle.formula_lister.specs.declared.chosen.Bounds.{Bounds}
@@ -13,7 +13,7 @@ use Rattle.formula_lister.specs.Elements.{AreElements, IsUncounted, NoneChosen}
 pub record IsReady (bounds : Bounds) (elements : List Element) (chosen : List ℕ) : Type 0 where
   pub known : AreElements bounds.limits elements
   pub none : NoneChosen elements chosen
-  pub places : length chosen ≡ PLACES
+  pub places : length chosen ≡ formula_places
   pub within_limits : IsWithin chosen bounds.limits
 
 -- beside the chosen counts and one of the next element, the rest of the greatest mass holds so many atoms of the last element, and
@@ -31,7 +31,7 @@ pub record IsLeftOver (bounds : Bounds) (next last : Element) (chosen : List ℕ
 
 -- a formula that the bounds and the rules allow
 pub record IsCandidate (bounds : Bounds) (rules : List Rule) (counts : List ℕ) : Type 0 where
-  pub places : length counts ≡ PLACES
+  pub places : length counts ≡ formula_places
   pub within_limits : IsWithin counts bounds.limits
   pub not_below : bounds.least ≤ mass_of counts
   pub not_above : mass_of counts ≤ bounds.most

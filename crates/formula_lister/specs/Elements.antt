@@ -1,8 +1,7 @@
 -- The elements that are counted, one after another.
 use Rattle.std.specs.Prelude.{◌≡◌, ◌≢◌, ◌≤◌, ◌<◌, ◌+◌, ◌*◌, ℕ, List, [], ◌∷◌, length, slice_index}
 use Rattle.std.specs.List.{AllByRecursion}
-use Rattle.element_table.specs.declared.elements.TheConstants.{ELEMENTS, MAX_COUNT}
-use Rattle.element_table.specs.Elements.{masses}
+use Rattle.element_table.specs.Elements.{element_count, greatest_count, masses}
 use Rattle.element_table.specs.Window.{greatest_half_width}
 use Rattle.formula_lister.specs.declared.element.Element.{Element}
 
@@ -13,11 +12,11 @@ reach_of (element ∷ elements) = element.limit * element.mass + reach_of elemen
 
 -- an element of the table, with its mass; every atom is heavier than a window is wide
 pub record IsKnown (element : Element) : Type 0 where
-  pub place : element.place < length ELEMENTS
+  pub place : element.place < element_count
   pub weighed : element.mass ≡ slice_index masses element.place
   pub heavy : 2 * greatest_half_width < element.mass
   pub light : element.mass ≤ 1269044719
-  pub capped : element.limit ≤ MAX_COUNT
+  pub capped : element.limit ≤ greatest_count
   pub reach : element.after ≤ 10 * (1999 * 1269044719)
 
 -- an element with its limit, counted before others

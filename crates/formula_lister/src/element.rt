@@ -3,7 +3,7 @@ ghost use Rattle.std.specs.Prelude.{◌≡◌, ◌≤◌, ◌<◌, ◌+◌, ◌*
 ghost use Rattle.element_table.specs.Elements.{masses};
 ghost use Rattle.formula_lister.specs.Elements.{AreElements, IsUncounted, IsKnown};
 
-use element_table::{ELEMENTS, PLACES};
+use element_table::{ELEMENTS, FORMULA_PLACES};
 use profile::Limits;
 use std::alloc::{AllocError, Global};
 
@@ -58,7 +58,7 @@ fn atom_mass(place: usize) -> u64
 /// last.
 pub(crate) fn counted_elements(alloc: Global, limits: &Limits) -> Result<Vec<Element>, AllocError>
     ensures elements { IfOk result (λ elements. AreElements limits.now elements.items) }
-    ensures places { IfOk result (λ _. length limits.now ≡ PLACES) }
+    ensures places { IfOk result (λ _. length limits.now ≡ FORMULA_PLACES) }
     ensures others { IfOk result (λ elements. (place : ℕ)
         → IsUncounted elements.items place → slice_index limits.now place ≡ 0) }
 {

@@ -1,8 +1,7 @@
 -- What a table says at a key.
 use Rattle.std.specs.Prelude.{ℕ, ◌-◌, ℤ, pos, Bool, false, List, ◌++◌, length, map, replicate, option_and_then, unwrap_or, bytes_eq}
 use Rattle.std.specs.Option.{option_map_or}
-use Rattle.element_table.specs.Elements.{symbols}
-use Rattle.element_table.specs.declared.elements.TheConstants.{PLACES}
+use Rattle.element_table.specs.Elements.{symbols, formula_places}
 use Rattle.toml.specs.Data.{Data, as_integer, as_str, as_array, as_table, get_member, Items, no_items, Members, no_members}
 
 -- the integer at a key, or else another
@@ -24,4 +23,4 @@ items_at members key = unwrap_or (option_and_then as_array (get_member key membe
 
 -- the integer at each element's symbol, by places, and 0 where there is none
 unfoldable pub element_numbers : Members → List ℤ
-element_numbers members = map (λ symbol. number_at members symbol (pos 0)) symbols ++ replicate (PLACES - length symbols) (pos 0)
+element_numbers members = map (λ symbol. number_at members symbol (pos 0)) symbols ++ replicate (formula_places - length symbols) (pos 0)

@@ -6,7 +6,7 @@ ghost use Rattle.profile.specs.Seen.{form_seen, rows_seen};
 ghost use Rattle.toml.specs.View.{view, table_view};
 
 use crate::table::element_number;
-use element_table::{ELEMENTS, PLACES};
+use element_table::{ELEMENTS, FORMULA_PLACES};
 use toml::{Table, Value};
 
 /// What may stand at a place.
@@ -210,7 +210,7 @@ fn is_positive_table(value: &Value) -> bool
 fn has_positive(table: &Table) -> bool
     ensures { result ≡ spec.has_positive (table_view table.now) }
 {
-    for place in 0..PLACES {
+    for place in 0..FORMULA_PLACES {
         if 0 < element_number(table, place) {
             return true;
         }

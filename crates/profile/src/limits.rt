@@ -2,14 +2,14 @@
 ghost use Rattle.std.specs.Prelude.{◌≡◌, ◌≤◌, ◌<◌, ℕ, List, slice_index};
 ghost use Rattle.element_table.specs.Formula.{IsFormula};
 
-use element_table::{MAX_COUNT, PLACES};
+use element_table::{FORMULA_PLACES, GREATEST_COUNT};
 use std::marker::Model;
 
 /// The greatest count of each element that a listed formula may have, by places: at most 1,999, and 0 at the places
 /// without an element. So the limits are counts of a formula, the greatest of those within them.
 #[derive(Clone, Copy, Debug, PartialEq, Eq)]
 pub struct Limits {
-    counts: [u16; PLACES],
+    counts: [u16; FORMULA_PLACES],
 }
 
 impl Model for Limits {
@@ -33,9 +33,9 @@ impl Limits {
 
     /// The greatest count of the element at a place.
     pub fn at(&self, place: usize) -> u16
-        requires { place < PLACES }
+        requires { place < FORMULA_PLACES }
         ensures count { result ≡ slice_index self.now place }
-        ensures capped { result ≤ MAX_COUNT }
+        ensures capped { result ≤ GREATEST_COUNT }
         ensures limits { IsFormula self.now }
     {
         self.counts[place]

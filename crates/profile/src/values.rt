@@ -12,7 +12,7 @@ use crate::profile::{
     DEFAULT_ABS, DEFAULT_BUDGET, DEFAULT_PEAKS, DEFAULT_PPM, Profile, Rules, default_limits,
 };
 use crate::table::{array_at, element_number, number_at, says, table_at};
-use element_table::PLACES;
+use element_table::FORMULA_PLACES;
 use std::alloc::{AllocError, Global};
 use toml::value::Array;
 use toml::{Table, Value};
@@ -57,8 +57,8 @@ fn limits_of(elements: &Table) -> Limits
     requires { IsFine form.limits (table_view elements.now) }
     ensures { result ≡ spec.limits_of (table_view elements.now) }
 {
-    let mut counts = [0; PLACES];
-    for place in 0..PLACES {
+    let mut counts = [0; FORMULA_PLACES];
+    for place in 0..FORMULA_PLACES {
         counts[place] = element_number(elements, place) as u16;
     }
     Limits::new(counts)
@@ -113,22 +113,22 @@ fn rule_of(rule: &Table) -> Rule
     }
 }
 
-fn coefficients_in(rule: &Table) -> [i32; PLACES]
+fn coefficients_in(rule: &Table) -> [i32; FORMULA_PLACES]
     requires { IsFine form.rule (table_view rule.now) }
     ensures { result ≡ said.element_numbers (said.table_at (table_view rule.now) (codes "coefficients")) }
 {
     match table_at(rule, "coefficients") {
         Some(elements) => coefficients_of(elements),
-        None => [0; PLACES],
+        None => [0; FORMULA_PLACES],
     }
 }
 
-fn coefficients_of(elements: &Table) -> [i32; PLACES]
+fn coefficients_of(elements: &Table) -> [i32; FORMULA_PLACES]
     requires { IsFine form.coefficients (table_view elements.now) }
     ensures { result ≡ said.element_numbers (table_view elements.now) }
 {
-    let mut coefficients = [0; PLACES];
-    for place in 0..PLACES {
+    let mut coefficients = [0; FORMULA_PLACES];
+    for place in 0..FORMULA_PLACES {
         coefficients[place] = element_number(elements, place) as i32;
     }
     coefficients

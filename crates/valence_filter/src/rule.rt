@@ -4,7 +4,7 @@ ghost use Rattle.element_table.specs.Rule.{Holds, IsNearZero, Passes, bond_coeff
 ghost use Rattle.element_table.specs.Listed.{has_parity, holds, passes};
 ghost use Rattle.valence_filter.specs.Parity.{parity_of};
 
-use element_table::{ELEMENTS, Formula, MAX_COUNT, PLACES};
+use element_table::{ELEMENTS, FORMULA_PLACES, Formula, GREATEST_COUNT};
 use std::marker::Model;
 
 /// Which whole numbers a rule takes.
@@ -19,7 +19,7 @@ pub enum Parity {
 /// number that is at least 0 and has the parity. Each coefficient is within 1,000 of 0, the constant within 1,000,000.
 #[derive(Clone, Copy, Debug, PartialEq, Eq)]
 pub struct Rule {
-    pub coefficients: [i32; PLACES],
+    pub coefficients: [i32; FORMULA_PLACES],
     pub constant: i32,
     pub parity: Parity,
 }
@@ -66,7 +66,7 @@ impl Rule {
         ensures { result ≡ value_of self.now formula.now }
     {
         let mut value = i64::from(self.constant);
-        for place in 0..PLACES {
+        for place in 0..FORMULA_PLACES {
             value += contribution(self.coefficients[place], formula.count(place));
         }
         value
@@ -76,7 +76,7 @@ impl Rule {
 // What so many atoms add to a rule's number.
 fn contribution(coefficient: i32, count: u16) -> i64
     requires near { IsNearZero 1000 coefficient }
-    requires capped { count ≤ MAX_COUNT }
+    requires capped { count ≤ GREATEST_COUNT }
     ensures product { result ≡ coefficient *ℤ pos count }
     ensures near { IsNearZero (1000 * 1999) result }
 {
@@ -84,10 +84,10 @@ fn contribution(coefficient: i32, count: u16) -> i64
 }
 
 // What an atom adds to twice the ring and double bond equivalent, by places.
-fn bond_numbers() -> [i32; PLACES]
+fn bond_numbers() -> [i32; FORMULA_PLACES]
     ensures { result ≡ bond_coefficients }
 {
-    let mut numbers = [0; PLACES];
+    let mut numbers = [0; FORMULA_PLACES];
     for place in 0..ELEMENTS.len() {
         numbers[place] = bond_number(place);
     }
