@@ -6,6 +6,12 @@ pub mod Parts
 pub mod Sorting
 pub mod Spelling
 pub mod Sums
+pub mod Masses
+pub mod Words
+pub mod ReadFormulas
+pub mod Places
+pub mod Within
+pub mod LinearSums
 pub mod Counting
 pub mod Totals
 pub mod Prefixes

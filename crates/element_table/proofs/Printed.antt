@@ -18,24 +18,24 @@ use Rattle.element_table.proofs.ReadAll.{fits}
 use Rattle.element_table.proofs.ReadSoFar.{formula_of-dash, formula_of-pieces, has_count, has_element, nought}
 
 -- the symbol of a place
-abbrev symbol_at : ℕ → List ℕ
+abbrev pub symbol_at : ℕ → List ℕ
 symbol_at place = get_or symbols place []
 
 -- the piece of a place, where it has atoms
 abbrev piece_at : ℕ → ℕ → List (List ℕ)
 piece_at place count = cond (eqb count 0) [] ((symbol_at place ++ count_text count) ∷ [])
 
-abbrev text_at : (ℕ → ℕ) → List ℕ → List ℕ
+abbrev pub text_at : (ℕ → ℕ) → List ℕ → List ℕ
 text_at counts places = flat_map (λ place. element_text place (counts place)) places
 
 abbrev printed_pieces : (ℕ → ℕ) → List ℕ → List (List ℕ)
 printed_pieces counts places = flat_map (λ place. piece_at place (counts place)) places
 
 -- what is asked of a place that is printed
-record IsPrinted (counts : ℕ → ℕ) (place : ℕ) : Type 0 where
-  symbol : is_symbol (symbol_at place) ≡ true
-  known : is_known (symbol_at place) ≡ true
-  fits : counts place < 2 ^ 64
+pub record IsPrinted (counts : ℕ → ℕ) (place : ℕ) : Type 0 where
+  pub symbol : is_symbol (symbol_at place) ≡ true
+  pub known : is_known (symbol_at place) ≡ true
+  pub fits : counts place < 2 ^ 64
 
 -- the pieces of a printed text are those of its places
 pieces_of-printed : (counts : ℕ → ℕ) (places : List ℕ) → AllByRecursion (IsPrinted counts) places
@@ -116,7 +116,7 @@ is_printed : (counts : List ℕ) → IsFormula counts → (place : ℕ) → is_s
 is_printed counts formula place symbol known = record { symbol = symbol; known = known; fits = let capped = formula.capped place in omega arith }
 
 -- every printed place is one that has an element
-are_printed : (counts : List ℕ) → IsFormula counts → AllByRecursion (IsPrinted (λ place. get_or counts place 0)) printed_places
+pub are_printed : (counts : List ℕ) → IsFormula counts → AllByRecursion (IsPrinted (λ place. get_or counts place 0)) printed_places
 are_printed counts formula =
     let is = λ (place : ℕ) (symbol : is_symbol (symbol_at place) ≡ true) (known : is_known (symbol_at place) ≡ true). is_printed counts formula place symbol known in
     (is 1 refl refl, (is 0 refl refl, (is 2 refl refl, (is 3 refl refl, (is 4 refl refl, (is 5 refl refl, (is 6 refl refl, (is 7 refl refl, (is 8 refl refl, (is 9 refl refl, (is 10 refl refl, tt)))))))))))
@@ -139,12 +139,12 @@ fits-formula : (counts : List ℕ) → IsFormula counts → list_all fits counts
 fits-formula counts formula = list_all-from_AllPass fits counts (λ place d within. le-leb _ 1999 (subst (λ n. n ≤ 1999) (get_or_default counts place 0 d within) (formula.capped place)))
 
 -- where no count is above none
-no_atom : (counts : List ℕ) → IsFormula counts → list_all (λ count. eqb count 0) counts ≡ true → counts ≡ empty_formula
+pub no_atom : (counts : List ℕ) → IsFormula counts → list_all (λ count. eqb count 0) counts ≡ true → counts ≡ empty_formula
 no_atom counts formula none = ext_get_or 0 counts empty_formula formula.places
     (λ place within. eqb-true (get_or counts place 0) 0 (AllPass-from_list_all (λ count. eqb count 0) counts none place 0 within) ∙ sym (nought place))
 
 -- where one is, the text begins with a capital letter
-some_atom : (counts : List ℕ) → IsFormula counts → list_all (λ count. eqb count 0) counts ≡ false → (text : List ℕ) → text ≡ text_at (λ place. get_or counts place 0) printed_places
+pub some_atom : (counts : List ℕ) → IsFormula counts → list_all (λ count. eqb count 0) counts ≡ false → (text : List ℕ) → text ≡ text_at (λ place. get_or counts place 0) printed_places
     → (ltb 0 (length text) && is_ascii_uppercase (get_or text 0 0)) ≡ true
 some_atom counts formula some [] is =
     let at : ℕ → ℕ = λ place. get_or counts place 0 in

@@ -29,7 +29,7 @@ IsInner bytes = AllByRecursion (λ byte. is_ascii_uppercase byte ≡ false) byte
 own : IsNumeralModel (λ digits. all_ascii_digits digits ≡ true) (digits_value 10)
 own = numerals_by_value (λ digits. all_ascii_digits digits ≡ true) tells_all_ascii_digits
 
-digit-bounds : (digit : ℕ) → is_ascii_digit digit ≡ true → (48 ≤ digit) × (digit ≤ 57)
+pub digit-bounds : (digit : ℕ) → is_ascii_digit digit ≡ true → (48 ≤ digit) × (digit ≤ 57)
 digit-bounds digit is = let parts = and_parts _ _ is in (leb-true _ _ parts.0, leb-true _ _ parts.1)
 
 digit-not_capital : (digit : ℕ) → is_ascii_digit digit ≡ true → is_ascii_uppercase digit ≡ false

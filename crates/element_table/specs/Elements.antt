@@ -1,5 +1,7 @@
 -- The element table: a column for each thing that is said of an element, and the greatest numbers of formulas.
-use Rattle.std.specs.Prelude.{ℕ, List, [], ◌∷◌, codes}
+use Rattle.std.specs.Prelude.{ℕ, List, [], ◌∷◌, Option, codes}
+use Rattle.std.specs.List.{position}
+use Rattle.std.specs.Str.{bytes_eq}
 
 -- how many elements the table has
 abbrev pub element_count : ℕ
@@ -17,6 +19,10 @@ greatest_count = 1999
 abbrev pub heaviest_atom : ℕ
 heaviest_atom = 1269044719
 
+-- no element forms more bonds
+abbrev pub greatest_valence : ℕ
+greatest_valence = 4
+
 -- the symbols, in the order of the table
 abbrev pub symbols : List (List ℕ)
 symbols =
@@ -32,3 +38,7 @@ masses =
 -- how many bonds each element forms
 abbrev pub valences : List ℕ
 valences = 1 ∷ 4 ∷ 3 ∷ 2 ∷ 3 ∷ 2 ∷ 1 ∷ 1 ∷ 1 ∷ 1 ∷ 4 ∷ []
+
+-- where a symbol stands in the table, if it does
+abbrev pub place_of : List ℕ → Option ℕ
+place_of symbol = position (λ known. bytes_eq known symbol) symbols

@@ -1,7 +1,9 @@
 -- A formula is the list of its counts, by the places of the element table.
-use Rattle.std.specs.Prelude.{◌≡◌, ◌≢◌, ◌≤◌, ◌+◌, ◌-◌, ◌*◌, ℕ, List, [], ◌∷◌, length, slice_index, replicate}
+use Rattle.std.specs.Prelude.{◌≡◌, ◌≢◌, ◌≤◌, ◌+◌, ◌-◌, ◌*◌, ℕ, Bool, not, ◌&&◌, nat_le, List, [], ◌∷◌, length, slice_index, replicate}
 use Rattle.std.specs.declared.cmp.Ordering.{Ordering}
 use Rattle.std.specs.Cmp.Lexicographic.{slice_cmp}
+use Rattle.std.specs.Str.{bytes_eq}
+use lib.Pointwise.{pointwise}
 use Rattle.std.specs.Ordering.{nat_cmp}
 use Rattle.element_table.specs.Elements.{element_count, formula_places, greatest_count, heaviest_atom, masses}
 
@@ -35,6 +37,14 @@ IsWithin part whole = (place : ℕ) → slice_index part place ≤ slice_index w
 -- a part that is not the whole
 abbrev pub IsProperPart : List ℕ → List ℕ → Type 0
 IsProperPart part whole = IsWithin part whole × (part ≢ whole)
+
+-- whether one formula is a part of another, as IsWithin says
+abbrev pub is_within : List ℕ → List ℕ → Bool
+is_within = pointwise nat_le
+
+-- whether one formula is a part of another and not the whole, as IsProperPart says
+abbrev pub is_proper_part : List ℕ → List ℕ → Bool
+is_proper_part part whole = pointwise nat_le part whole && not (bytes_eq part whole)
 
 -- the loss of a whole to a part of it: the difference of each count
 abbrev pub loss_of : List ℕ → List ℕ → List ℕ

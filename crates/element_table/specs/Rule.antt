@@ -1,7 +1,7 @@
 -- The rules that a formula may have to pass.
-use Rattle.std.specs.Prelude.{◌≡◌, ◌≢◌, ◌-◌, ◌++◌, ℕ, ℤ, pos, ◌+ℤ◌, ◌-ℤ◌, ◌*ℤ◌, ◌≤ℤ◌, neg_ℤ, int_rem, List, ◌∷◌, length, map, replicate, slice_index_or, ⊤}
+use Rattle.std.specs.Prelude.{◌≡◌, ◌≢◌, ◌-◌, ◌++◌, ◌+◌, ◌*◌, ℕ, ℤ, pos, ◌+ℤ◌, ◌-ℤ◌, ◌*ℤ◌, ◌≤ℤ◌, neg_ℤ, int_rem, List, ◌∷◌, length, map, replicate, slice_index_or, ⊤}
 use Rattle.std.specs.List.{AllByRecursion}
-use Rattle.element_table.specs.Elements.{valences, element_count, formula_places}
+use Rattle.element_table.specs.Elements.{element_count, formula_places, greatest_count, valences}
 
 pub data Parity : Type 0 where
   any : Parity
@@ -43,6 +43,10 @@ bond_coefficients = map (λ valence. pos valence -ℤ pos 2) valences ++ replica
 -- twice the ring and double bond equivalent, which is the number of rings and double bonds
 abbrev pub rdbe2_of : List ℕ → ℤ
 rdbe2_of counts = pos 2 +ℤ linear_sum bond_coefficients counts
+
+-- twice the ring and double bond equivalent of a formula is no farther from 0
+abbrev pub greatest_rdbe2 : ℕ
+greatest_rdbe2 = 2 + element_count * (greatest_count * 2)
 
 -- the rule that says rdbe2_of counts ≥ bound
 abbrev pub fragment_rule_of : ℤ → Rule

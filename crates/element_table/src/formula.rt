@@ -1,10 +1,11 @@
 //! A formula as its counts, and what is computed from them.
-ghost use Rattle.std.specs.Prelude.{◌≡◌, ◌≤◌, ◌<◌, ◌+◌, ◌*◌, ◌↔◌, ◌==◌, ℕ, List, IsTrue, length, slice_index, slice_set};
+ghost use Rattle.std.specs.Prelude.{◌≡◌, ◌≤◌, ◌<◌, ◌+◌, ◌*◌, ◌*ℤ◌, ◌↔◌, ◌==◌, ℕ, List, IsTrue, length, pos, slice_index, slice_index_or, slice_set};
 ghost use Rattle.std.specs.List.{list_all};
 ghost use Rattle.element_table.specs.Elements.{element_count, formula_places, greatest_count};
-ghost use Rattle.element_table.specs.Formula.{IsFormula, empty_formula, greatest_mass, mass_of, IsWithin, loss_of, union_of, formula_cmp};
+ghost use Rattle.element_table.specs.Formula.{IsFormula, empty_formula, greatest_mass, mass_of, IsWithin, is_within, loss_of, union_of, formula_cmp};
+ghost use Rattle.element_table.specs.Rule.{IsNearZero, bond_coefficients, greatest_rdbe2, rdbe2_of};
 
-use crate::elements::{ELEMENTS, FORMULA_PLACES, GREATEST_COUNT, mass_at};
+use crate::elements::{ELEMENTS, FORMULA_PLACES, GREATEST_COUNT, bond_number_at, mass_at};
 use std::cmp::Ordering;
 use std::marker::Model;
 
@@ -40,6 +41,14 @@ impl Formula {
         ensures { result ≡ counts }
     {
         Formula { counts }
+    }
+
+    /// Tells what every formula is, for proofs alone: it does nothing.
+    #[inline]
+    pub(crate) fn is_formula(&self)
+        ensures { IsFormula self.now }
+    {
+        let _counts = &self.counts;
     }
 
     /// Whether there is no atom at all.
@@ -82,9 +91,22 @@ impl Formula {
         mass
     }
 
+    /// Twice the number of rings and double bonds.
+    pub fn rdbe2(&self) -> i32
+        ensures bonds { result ≡ rdbe2_of self.now }
+        ensures near { IsNearZero greatest_rdbe2 result }
+    {
+        let mut rdbe2 = 2;
+        for place in 0..ELEMENTS.len() {
+            rdbe2 += bonds_of(place, self.counts[place]);
+        }
+        rdbe2
+    }
+
     /// Whether each count is at most the other's.
     pub fn within(&self, other: &Formula) -> bool
-        ensures { IsTrue result ↔ IsWithin self.now other.now }
+        ensures exactly { IsTrue result ↔ IsWithin self.now other.now }
+        ensures test { result ≡ is_within self.now other.now }
     {
         self.counts
             .iter()
@@ -122,4 +144,14 @@ impl Formula {
     {
         self.counts.cmp(&other.counts)
     }
+}
+
+/// What so many atoms of the element at a place add to twice the number of rings and double bonds.
+fn bonds_of(place: usize, count: u16) -> i32
+    requires element { place < element_count }
+    requires capped { count ≤ greatest_count }
+    ensures product { result ≡ slice_index_or bond_coefficients place (pos 0) *ℤ pos count }
+    ensures near { IsNearZero (2 * greatest_count) result }
+{
+    bond_number_at(place) * i32::from(count)
 }

@@ -1,5 +1,7 @@
 //! The formulas of one peak.
 ghost use Rattle.std.specs.Prelude.{◌≡◌};
+ghost use Rattle.std.specs.List.{All};
+ghost use Rattle.element_table.specs.Formula.{IsFormula};
 
 use crate::formula::Formula;
 use std::marker::Model;
@@ -12,10 +14,14 @@ pub struct Formulas {
 
 impl Model for Formulas {
     ghost use Rattle.std.specs.Prelude.{List, ℕ};
+    ghost use Rattle.std.specs.List.{All};
+    ghost use Rattle.element_table.specs.Formula.{IsFormula};
 
     ghost Value = { List (List ℕ) };
 
     ghost view = { λ formulas. formulas.items.items };
+
+    ghost invariant = { λ formulas. All IsFormula formulas.items.items };
 }
 
 impl Formulas {
@@ -23,12 +29,16 @@ impl Formulas {
     pub fn of(items: Vec<Formula>) -> Formulas
         ensures { result ≡ items.items }
     {
+        for formula in &items {
+            formula.is_formula();
+        }
         Formulas { items }
     }
 
     /// The formulas.
     pub fn items(&self) -> &[Formula]
-        ensures { result.now ≡ self.now }
+        ensures items { result.now ≡ self.now }
+        ensures formulas { All IsFormula self.now }
     {
         &self.items
     }

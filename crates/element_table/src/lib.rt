@@ -8,12 +8,16 @@ mod laws;
 mod reading;
 mod text;
 
-pub use elements::{ELEMENTS, FORMULA_PLACES, GREATEST_COUNT};
+pub use elements::{
+    ELEMENTS, FORMULA_PLACES, GREATEST_COUNT, bond_number_at, mass_at, place_of_symbol, symbol_at,
+    valence_at,
+};
 pub use formula::Formula;
 pub use formula_list::{FormulaList, Formulas};
 pub use laws::{
-    reading_undoes_printing, sorted_formulas_rise, the_list_is_a_filter, the_rules_speak_of_bonds,
-    the_tests_decide,
+    a_read_formula_is_one, a_spelling_is_one_word, a_whole_is_its_part_and_its_loss,
+    atoms_weigh_more_than_a_window, reading_undoes_printing, sorted_formulas_rise,
+    the_list_is_a_filter, the_rules_speak_of_bonds, the_tests_decide,
 };
 pub use reading::{FormulaFault, read_formula};
 pub use text::{FormulaText, GREATEST_FORMULA_TEXT, print_formula};

@@ -1,8 +1,10 @@
 //! Worked examples of formulas.
 use crate::{
-    ELEMENTS, Formula, FormulaFault, FormulaList, Formulas, GREATEST_COUNT, print_formula,
-    read_formula, reading_undoes_printing, sorted_formulas_rise, the_list_is_a_filter,
-    the_rules_speak_of_bonds, the_tests_decide,
+    Formula, FormulaFault, FormulaList, Formulas, GREATEST_COUNT, a_read_formula_is_one,
+    a_spelling_is_one_word, a_whole_is_its_part_and_its_loss, atoms_weigh_more_than_a_window,
+    mass_at, place_of_symbol, print_formula, read_formula, reading_undoes_printing,
+    sorted_formulas_rise, symbol_at, the_list_is_a_filter, the_rules_speak_of_bonds,
+    the_tests_decide, valence_at,
 };
 use std::cmp::Ordering;
 use std::test::Fail;
@@ -42,7 +44,36 @@ fn knows_the_elements(rt: HostRuntime) {
         let atom = Formula::empty().with(place, 1);
         assert_eq!(rt; print_formula(&atom).items(), symbol.as_bytes());
         assert_eq!(rt; atom.mass(), *mass, "of {symbol}");
-        assert_eq!(rt; ELEMENTS[place].2, *valence, "of {symbol}");
+        assert_eq!(rt; symbol_at(place), *symbol);
+        assert_eq!(rt; mass_at(place), *mass, "of {symbol}");
+        assert_eq!(rt; valence_at(place), *valence, "of {symbol}");
+        assert_eq!(rt; place_of_symbol(symbol.as_bytes()), Some(place));
+    }
+}
+
+#[test]
+fn knows_no_other_symbol(rt: HostRuntime) {
+    for symbol in ["", "h", "CL", "Na", "K", "Sii", "-"] {
+        assert_eq!(rt; place_of_symbol(symbol.as_bytes()), None, "at {symbol}");
+    }
+}
+
+#[test]
+fn counts_rings_and_double_bonds(rt: HostRuntime) {
+    let cases: [(&str, i32); 9] = [
+        ("-", 2),
+        ("H2O", 0),
+        ("C6H12O6", 2),
+        ("C8H10N4O2", 12),
+        ("CH4", 0),
+        ("CH5", -1),
+        ("CH6", -2),
+        ("C6H6", 8),
+        ("H3Cl", -2),
+    ];
+    for (text, bonds) in cases {
+        let rdbe2 = read_formula(text.as_bytes()).map(|formula| formula.rdbe2());
+        assert_eq!(rt; rdbe2, Ok(bonds), "of {text}");
     }
 }
 
@@ -195,4 +226,8 @@ fn states_laws() {
     the_list_is_a_filter();
     sorted_formulas_rise();
     reading_undoes_printing();
+    a_read_formula_is_one();
+    a_spelling_is_one_word();
+    a_whole_is_its_part_and_its_loss();
+    atoms_weigh_more_than_a_window();
 }
