@@ -1,4 +1,4 @@
--- What the rules of a fragment and of a candidate say.
+-- Of fragment_rule_of and neutral_rule_of: what they say of rings and double bonds.
 use Rattle.std.proofs.Common.{ℕ, ℤ, pos, ◌+ℤ◌, ◌-ℤ◌, ◌≤ℤ◌, List, arith}
 use Rattle.std.proofs.lemmas.Int.{ints}
 use Rattle.std.specs.Prelude.{◌↔◌}

@@ -1,4 +1,4 @@
--- All count lists within some limits: they rise in formula order, and their members are the lists within the limits.
+-- Of count_lists: they rise in formula order, and their members are the lists within the limits.
 use Rattle.std.proofs.Common.{◌≡◌, ◌≤◌, ◌<◌, ◌+◌, ◌∙◌, inl, inr, ℕ, zero, suc, List, [], ◌∷◌, length, map, refl, sym, ap, subst, arith}
 use Rattle.std.specs.declared.cmp.Ordering.TheVariants.{Less}
 use Rattle.std.specs.List.{flat_map, range_with_len}

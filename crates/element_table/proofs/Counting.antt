@@ -1,4 +1,4 @@
--- The count of a piece, digit by digit.
+-- Of count_of and is_count: the count of a piece, digit by digit.
 use Rattle.std.proofs.Common.{◌≡◌, ◌<◌, ◌≤◌, ◌+◌, ◌-◌, ◌*◌, ℕ, zero, suc, Bool, true, false, not, cond, below_more, List, [], ◌∷◌, Some, None, length, take, get_or, min, eqb, refl, sym, ap, ◌∙◌, arith}
 use Rattle.std.specs.Bool.{MatchBool}
 use Rattle.std.specs.Char.{IsAsciiDigit, IsNotAsciiDigit, is_ascii_digit, digit_value}

@@ -1,4 +1,4 @@
--- Worked examples, computed.
+-- Of all definitions: worked examples, computed.
 use Rattle.std.specs.Prelude.{◌≡◌, ℕ, length, pos, negsuc, List, [], ◌∷◌, ◌++◌, true, false, codes, replicate, refl, Ok, Err}
 use Rattle.std.specs.Fmt.{digits}
 use Rattle.element_table.specs.Formula.{empty_formula, loss_of, mass_of, union_of}

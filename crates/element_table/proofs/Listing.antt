@@ -1,4 +1,4 @@
--- The list of a window is a filter, and there is no other.
+-- Of Listed and listed_of: the list of a window is a filter, and there is no other.
 use Rattle.std.proofs.Common.{◌≡◌, ℕ, ℤ, pos, ◌≤ℤ◌, List, [], ◌∷◌, Bool, true, false, ◌&&◌, length, refl, sym, ◌∙◌, ap, T}
 use Rattle.std.specs.declared.cmp.Ordering.TheVariants.{Less, Greater}
 use Rattle.std.specs.Bool.{Decides}

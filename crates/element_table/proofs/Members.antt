@@ -1,4 +1,4 @@
--- Members of lists, and lists whose elements each bear a relation to the later ones.
+-- Of Listed: members of lists, and lists whose elements each bear a relation to the later ones.
 use Rattle.std.proofs.Common.{◌≡◌, ◌<◌, ◌∙◌, ◌⊎◌, inl, inr, ℕ, zero, suc, List, [], ◌∷◌, ◌++◌, length, map, get_or, Bool, true, false, cond, refl, sym, ap, subst, arith}
 use Rattle.std.specs.List.{AllPairs, Contains, filter}
 

@@ -1,4 +1,4 @@
--- The loss and the union of formulas, place by place.
+-- Of loss_of and union_of: the loss and the union of formulas, place by place.
 use Rattle.std.proofs.Common.{◌≡◌, ◌<◌, ◌+◌, ◌-◌, ℕ, zero, suc, List, [], ◌∷◌, length, get_or, refl, arith}
 use Rattle.std.proofs.lemmas.List.{same_lists, get_or_default}
 use Rattle.element_table.specs.Formula.{loss_of, union_of}

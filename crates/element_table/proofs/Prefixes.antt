@@ -1,4 +1,4 @@
--- The first of the elements that pass a test.
+-- Of count_to_capital: the first of the elements that pass a test.
 use Rattle.std.proofs.Common.{◌≡◌, ◌≤◌, ℕ, Bool, true, false, cond, List, Some, None, length, ltb, refl, arith}
 use Rattle.std.proofs.lemmas.Bool.{ltb-false}
 use Rattle.std.proofs.lemmas.List.Sums.{prefix_len-le-length}

@@ -1,4 +1,4 @@
--- Reading a printed formula.
+-- Of formula_of and formula_text: reading a printed formula.
 use Rattle.std.proofs.Common.{◌≡◌, ◌<◌, ◌≤◌, ◌+◌, ◌^◌, ◌∙◌, ℕ, zero, suc, Bool, true, false, cond, not, ◌&&◌, List, [], ◌∷◌, ◌++◌, length, get_or, map, eqb, leb, ltb, inl, inr, refl, sym, subst, ap, arith, Ok, Err}
 use Rattle.std.specs.Prelude.{codes, replicate}
 use Rattle.std.specs.Char.{is_ascii_uppercase}

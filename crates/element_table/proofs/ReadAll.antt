@@ -1,4 +1,4 @@
--- A formula that is read to the end of its text.
+-- Of formula_of: a formula that is read to the end of its text.
 use Rattle.std.proofs.Common.{◌≡◌, ◌<◌, ◌≤◌, ◌∙◌, ℕ, Bool, true, false, ◌&&◌, inl, inr, List, [], ◌∷◌, length, map, get_or, min, Ok, Err, eqb, ltb, leb, refl, sym, ap, arith}
 use Rattle.std.specs.Prelude.{codes, replicate}
 use Rattle.std.proofs.lemmas.Bool.{and_parts, cases_lt, eqb-true, le-leb, leb-false, leb-true, lt-leb}

@@ -1,4 +1,4 @@
--- A formula that is read piece by piece.
+-- Of formula_of: a formula that is read piece by piece.
 use Rattle.std.proofs.Common.{◌≡◌, ◌<◌, ◌≤◌, ◌+◌, ◌∙◌, ℕ, Bool, true, false, cond, not, ◌&&◌, inl, inr, List, [], ◌∷◌, length, drop, get_or, min, Some, None, Ok, Err, ltb, refl, sym, ap, arith}
 use Rattle.std.specs.Prelude.{codes, replicate}
 use Rattle.std.proofs.lemmas.Bool.{and_left, and_parts, cases_lt, lt-ltb}

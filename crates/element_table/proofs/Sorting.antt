@@ -1,4 +1,4 @@
--- Sorted formulas of which no two are the same rise strictly.
+-- Of formula_cmp: sorted formulas of which no two are the same rise strictly.
 use Rattle.std.proofs.Common.{◌≡◌, ◌≢◌, ℕ, List, true, false, get_or, sym, ap, ◌∙◌, refl, arith}
 use Rattle.std.specs.declared.cmp.Ordering.{Ordering}
 use Rattle.std.specs.declared.cmp.Ordering.TheVariants.{Less, Equal, Greater}

@@ -1,4 +1,4 @@
--- The totals of the elements, place by place.
+-- Of totals_of and share_of: the totals of the elements, place by place.
 use Rattle.std.proofs.Common.{◌≡◌, ◌≢◌, ◌<◌, ◌≤◌, ◌+◌, ◌∙◌, ℕ, Bool, true, false, ◌||◌, List, [], length, take, get_or, get_or-set_other, get_or-set_same, set, min, below_more, refl, sym, arith}
 use Rattle.std.proofs.lemmas.List.Folds.{list_any_more}
 use Rattle.std.specs.List.{list_any}

@@ -1,5 +1,6 @@
 -- The formula that a text writes, or the first reason why it writes none.
-use Rattle.std.specs.Prelude.{ℕ, ◌-◌, Bool, true, false, not, ◌&&◌, ◌==◌, nat_le, List, [], ◌∷◌, ◌++◌, map, replicate, codes, sum_by, Result, Ok, Err, if◌then◌else◌}
+use Rattle.std.specs.Prelude.{ℕ, ◌-◌, Bool, true, false, not, ◌&&◌, ◌==◌, nat_le, List, [], ◌∷◌, ◌++◌, map, replicate}
+use Rattle.std.specs.Prelude.{codes, sum_by, Result, Ok, Err, if◌then◌else◌}
 use Rattle.std.specs.Char.{is_ascii_lowercase, is_ascii_uppercase}
 use Rattle.std.specs.List.{before_first, list_all, list_any}
 use Rattle.std.specs.Str.{all_ascii_digits, bytes_eq}
@@ -12,7 +13,9 @@ use Rattle.element_table.specs.declared.reading.FormulaFault.TheVariants.{NoForm
 -- the pieces of a text: each capital letter with all that stands before the next one
 abbrev pub pieces_of : List ℕ → List (List ℕ)
 pieces_of [] = []
-pieces_of (byte ∷ bytes) = if is_ascii_uppercase byte then (byte ∷ before_first is_ascii_uppercase bytes) ∷ pieces_of bytes else pieces_of bytes
+pieces_of (byte ∷ bytes) =
+    if is_ascii_uppercase byte then (byte ∷ before_first is_ascii_uppercase bytes) ∷ pieces_of bytes
+    else pieces_of bytes
 
 -- the symbol of a piece: its capital letter, with the small letter that may stand after it
 abbrev pub symbol_of : List ℕ → List ℕ
@@ -37,7 +40,8 @@ count_of (digit ∷ digits) = digits_value 10 (digit ∷ digits)
 -- symbols, at least one, each with a count
 abbrev pub is_formula_text : List ℕ → Bool
 is_formula_text [] = false
-is_formula_text (byte ∷ bytes) = is_ascii_uppercase byte && list_all (λ piece. is_count (digits_of piece)) (pieces_of (byte ∷ bytes))
+is_formula_text (byte ∷ bytes) =
+    is_ascii_uppercase byte && list_all (λ piece. is_count (digits_of piece)) (pieces_of (byte ∷ bytes))
 
 -- the symbol of an element of the table
 abbrev pub is_known : List ℕ → Bool
@@ -59,7 +63,8 @@ totals_of pieces = map (λ element. total_of pieces element) symbols ++ replicat
 abbrev pub formula_of_pieces : List (List ℕ) → Result (List ℕ) FormulaFault
 formula_of_pieces pieces =
     if not (list_all (λ piece. is_known (symbol_of piece)) pieces) then Err UnknownElement
-    else (if not (list_all (λ total. nat_le total greatest_count) (totals_of pieces)) then Err CountTooLarge else Ok (totals_of pieces))
+    else (if not (list_all (λ total. nat_le total greatest_count) (totals_of pieces)) then Err CountTooLarge
+    else Ok (totals_of pieces))
 
 -- The formula of a text. A dash writes the empty one.
 unfoldable pub formula_of : List ℕ → Result (List ℕ) FormulaFault

@@ -11,10 +11,14 @@ greatest_formula_text = 96
 abbrev pub printed_places : List ℕ
 printed_places = 1 ∷ 0 ∷ 2 ∷ 3 ∷ 4 ∷ 5 ∷ 6 ∷ 7 ∷ 8 ∷ 9 ∷ 10 ∷ []
 
--- an element's part of the spelling: its symbol and its count, where a count of one is left out, and one of none with the symbol
+-- an element's part of the spelling: its symbol and its count, where a count of one is left out; nothing where there is
+-- no atom of it
 abbrev pub element_text : ℕ → ℕ → List ℕ
-element_text place count = if count == 0 then [] else (slice_index_or symbols place [] ++ (if count == 1 then [] else decimal count))
+element_text place count =
+    if count == 0 then [] else (slice_index_or symbols place [] ++ (if count == 1 then [] else decimal count))
 
 -- the spelling of a formula; the empty one is a dash
 abbrev pub formula_text : List ℕ → List ℕ
-formula_text counts = if list_all (λ count. count == 0) counts then codes "-" else flat_map (λ place. element_text place (slice_index counts place)) printed_places
+formula_text counts =
+    if list_all (λ count. count == 0) counts then codes "-"
+    else flat_map (λ place. element_text place (slice_index counts place)) printed_places

@@ -1,5 +1,6 @@
 -- The list of a window: exactly the formulas in it that the limits and the rules allow.
-use Rattle.std.specs.Prelude.{◌≡◌, ◌+◌, ◌↔◌, ℕ, ℤ, pos, ◌+ℤ◌, ◌-ℤ◌, int_le, int_rem, Bool, true, not, ◌&&◌, List, [], ◌∷◌, length, map}
+use Rattle.std.specs.Prelude.{◌≡◌, ◌+◌, ◌↔◌, ℕ, ℤ, pos, ◌+ℤ◌, ◌-ℤ◌, int_le, int_rem, Bool, true, not, ◌&&◌, List, []}
+use Rattle.std.specs.Prelude.{◌∷◌, length, map}
 use Rattle.std.specs.List.{AllPairs, Contains, filter, flat_map, list_all, range_with_len}
 use Rattle.std.specs.Ordering.{int_eq}
 use Rattle.std.specs.declared.cmp.Ordering.TheVariants.{Less}
@@ -23,11 +24,14 @@ pub record Listed (window : Window) (limits : List ℕ) (rules : List Rule) (for
 -- all count lists within the limits, in formula order
 abbrev pub count_lists : List ℕ → List (List ℕ)
 count_lists [] = [] ∷ []
-count_lists (limit ∷ limits) = flat_map (λ count. map (λ counts. count ∷ counts) (count_lists limits)) (range_with_len 0 (limit + 1))
+count_lists (limit ∷ limits) =
+    flat_map (λ count. map (λ counts. count ∷ counts) (count_lists limits)) (range_with_len 0 (limit + 1))
 
 -- whether a formula is in a window, as InWindow says
 abbrev pub is_in_window : Window → List ℕ → Bool
-is_in_window window counts = int_le (window.centre -ℤ pos window.half) (pos (mass_of counts)) && int_le (pos (mass_of counts)) (window.centre +ℤ pos window.half)
+is_in_window window counts =
+    int_le (window.centre -ℤ pos window.half) (pos (mass_of counts))
+    && int_le (pos (mass_of counts)) (window.centre +ℤ pos window.half)
 
 -- whether a number has a parity, as HasParity says
 abbrev pub has_parity : Parity → ℤ → Bool
@@ -45,4 +49,5 @@ passes rules counts = list_all (λ rule. holds rule counts) rules
 
 -- the list of a window: all count lists within the limits, without those that are not in the window or do not pass
 unfoldable pub listed_of : Window → List ℕ → List Rule → List (List ℕ)
-listed_of window limits rules = filter (λ counts. is_in_window window counts && passes rules counts) (count_lists limits)
+listed_of window limits rules =
+    filter (λ counts. is_in_window window counts && passes rules counts) (count_lists limits)

@@ -1,5 +1,6 @@
 -- The rules that a formula may have to pass.
-use Rattle.std.specs.Prelude.{◌≡◌, ◌≢◌, ◌-◌, ◌++◌, ◌+◌, ◌*◌, ℕ, ℤ, pos, ◌+ℤ◌, ◌-ℤ◌, ◌*ℤ◌, ◌≤ℤ◌, neg_ℤ, int_rem, List, ◌∷◌, length, map, replicate, slice_index_or, ⊤}
+use Rattle.std.specs.Prelude.{◌≡◌, ◌≢◌, ◌-◌, ◌++◌, ◌+◌, ◌*◌, ℕ, ℤ, pos, ◌+ℤ◌, ◌-ℤ◌, ◌*ℤ◌, ◌≤ℤ◌, neg_ℤ, int_rem, List}
+use Rattle.std.specs.Prelude.{◌∷◌, length, map, replicate, slice_index_or, ⊤}
 use Rattle.std.specs.List.{AllByRecursion}
 use Rattle.element_table.specs.Elements.{element_count, formula_places, greatest_count, valences}
 
@@ -60,7 +61,7 @@ neutral_rule_of = record { coefficients = bond_coefficients; constant = pos 2; p
 abbrev pub IsNearZero : ℕ → ℤ → Type 0
 IsNearZero most z = (neg_ℤ (pos most) ≤ℤ z) × (z ≤ℤ pos most)
 
--- what every rule is that a program holds: a coefficient for each place, none too far from 0, and a constant that is not either
+-- what every rule is that a program holds: a coefficient for each place and a constant, none of them too far from 0
 pub record IsRule (rule : Rule) : Type 0 where
   pub places : length rule.coefficients ≡ formula_places
   pub coefficients : (place : ℕ) → IsNearZero 1000 (slice_index_or rule.coefficients place (pos 0))

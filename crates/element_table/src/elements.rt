@@ -1,7 +1,8 @@
 //! The element table.
 ghost use Rattle.std.specs.Prelude.{◌≡◌, ◌≤◌, ◌<◌, ◌*◌, [], length, pos, slice_index, slice_index_or, IfSome};
 ghost use Rattle.std.specs.Option.{is_some};
-ghost use Rattle.element_table.specs.Elements.{element_count, greatest_valence, heaviest_atom, masses, place_of, symbols, valences};
+ghost use Rattle.element_table.specs.Elements.{element_count, greatest_valence, heaviest_atom, masses, place_of};
+ghost use Rattle.element_table.specs.Elements.{symbols, valences};
 ghost use Rattle.element_table.specs.FormulaReading.{is_known};
 ghost use Rattle.element_table.specs.Rule.{IsNearZero, bond_coefficients};
 ghost use Rattle.element_table.specs.Window.{greatest_half_width};

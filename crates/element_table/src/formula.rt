@@ -1,8 +1,10 @@
 //! A formula as its counts, and what is computed from them.
-ghost use Rattle.std.specs.Prelude.{◌≡◌, ◌≤◌, ◌<◌, ◌+◌, ◌*◌, ◌*ℤ◌, ◌↔◌, ◌==◌, ℕ, List, IsTrue, length, pos, slice_index, slice_index_or, slice_set};
+ghost use Rattle.std.specs.Prelude.{◌≡◌, ◌≤◌, ◌<◌, ◌+◌, ◌*◌, ◌*ℤ◌, ◌↔◌, ◌==◌, ℕ, List, IsTrue, length, pos};
+ghost use Rattle.std.specs.Prelude.{slice_index, slice_index_or, slice_set};
 ghost use Rattle.std.specs.List.{list_all};
 ghost use Rattle.element_table.specs.Elements.{element_count, formula_places, greatest_count};
-ghost use Rattle.element_table.specs.Formula.{IsFormula, empty_formula, greatest_mass, mass_of, IsWithin, is_within, loss_of, union_of, formula_cmp};
+ghost use Rattle.element_table.specs.Formula.{IsFormula, empty_formula, greatest_mass, mass_of, IsWithin, is_within};
+ghost use Rattle.element_table.specs.Formula.{loss_of, union_of, formula_cmp};
 ghost use Rattle.element_table.specs.Rule.{IsNearZero, bond_coefficients, greatest_rdbe2, rdbe2_of};
 
 use crate::elements::{ELEMENTS, FORMULA_PLACES, GREATEST_COUNT, bond_number_at, mass_at};

@@ -44,8 +44,8 @@ impl Formulas {
     }
 }
 
-/// The formulas of one peak, with its m/z in units of 10^-7 and its intensity in units of 10^-6. The list of a precursor has
-/// the intensity 0.
+/// The formulas of one peak, with its m/z in units of 10^-7 and its intensity in units of 10^-6. The list of a
+/// precursor has the intensity 0.
 #[derive(Debug, Drop)]
 pub struct FormulaList {
     pub mz: u64,

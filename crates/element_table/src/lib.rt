@@ -1,4 +1,4 @@
-//! Molecular formulas over the element table: counts, masses, order, spelling and reading; and the formulas of one peak.
+//! Molecular formulas over the element table: counts, masses, order, spelling and reading; and the list of a peak.
 #![tactic(auto)]
 
 mod elements;

@@ -1,9 +1,11 @@
 //! A formula read from its text.
-ghost use Rattle.std.specs.Prelude.{◌≡◌, ◌≤◌, ◌<◌, ◌+◌, ◌&&◌, [], ◌∷◌, ℕ, None, Some, drop, if◌then◌else◌, length, min, nat_le, nat_lt, slice_index, slice_index_or};
+ghost use Rattle.std.specs.Prelude.{◌≡◌, ◌≤◌, ◌<◌, ◌+◌, ◌&&◌, [], ◌∷◌, ℕ, None, Some, drop, if◌then◌else◌, length, min};
+ghost use Rattle.std.specs.Prelude.{nat_le, nat_lt, slice_index, slice_index_or};
 ghost use Rattle.std.specs.Char.{is_ascii_uppercase};
 ghost use Rattle.std.specs.List.{before_first, list_all, position, position_or_len};
 ghost use Rattle.element_table.specs.Elements.{element_count, greatest_count, symbols};
-ghost use Rattle.element_table.specs.FormulaReading.{count_of, digits_of, formula_of, is_count, is_known, share_of, symbol_of};
+ghost use Rattle.element_table.specs.FormulaReading.{count_of, digits_of, formula_of, is_count, is_known, share_of};
+ghost use Rattle.element_table.specs.FormulaReading.{symbol_of};
 
 use crate::elements::{ELEMENTS, FORMULA_PLACES, GREATEST_COUNT, symbol_at};
 use crate::formula::Formula;
@@ -22,9 +24,10 @@ pub enum FormulaFault {
 /// A number of atoms that no formula may have: every greater one is taken for it.
 const TOO_MANY: u16 = GREATEST_COUNT + 1;
 
-/// Reads a formula: `-` for the empty one, or symbols of elements, each with an optional count. A symbol is a capital letter
-/// with at most one small letter after it, a count is digits of which the first is no zero. The counts of an element add up.
-/// The first that applies is refused: another form, an unknown symbol, more than 1,999 atoms of an element.
+/// Reads a formula: `-` for the empty one, or symbols of elements, each with an optional count. A symbol is a capital
+/// letter with at most one small letter after it, a count is digits of which the first is no zero. The counts of an
+/// element add up. The first that applies is refused: another form, an unknown symbol, more than 1,999 atoms of an
+/// element.
 pub fn read_formula(text: &[u8]) -> Result<Formula, FormulaFault>
     ensures { result ≡ formula_of text.now }
 {
@@ -55,14 +58,14 @@ pub fn read_formula(text: &[u8]) -> Result<Formula, FormulaFault>
     Ok(Formula::of_counts(totals))
 }
 
-// Whether a text begins with a capital letter.
+/// Whether a text begins with a capital letter.
 fn begins_piece(text: &[u8]) -> bool
     ensures { result ≡ (nat_lt 0 (length text.now) && is_ascii_uppercase (slice_index text.now 0)) }
 {
     text.first().is_some_and(|byte| byte.is_ascii_uppercase())
 }
 
-// The capital letter at the front with all that stands before the next one, and the rest.
+/// The capital letter at the front with all that stands before the next one, and the rest.
 fn split_piece(text: &[u8]) -> (&[u8], &[u8])
     requires { 0 < length text.now }
     ensures piece { result.0.now ≡ slice_index text.now 0 ∷ before_first is_ascii_uppercase (drop 1 text.now) }
@@ -71,7 +74,7 @@ fn split_piece(text: &[u8]) -> (&[u8], &[u8])
     text.split_at(1 + count_to_capital(&text[1..]))
 }
 
-// How many bytes stand before the first capital letter, or all where there is none.
+/// How many bytes stand before the first capital letter, or all where there is none.
 fn count_to_capital(bytes: &[u8]) -> usize
     ensures count { result ≡ position_or_len is_ascii_uppercase bytes.now }
     ensures within { result ≤ length bytes.now }
@@ -79,14 +82,14 @@ fn count_to_capital(bytes: &[u8]) -> usize
     first_capital(bytes).unwrap_or(bytes.len())
 }
 
-// Where the first capital letter stands.
+/// Where the first capital letter stands.
 fn first_capital(bytes: &[u8]) -> Option<usize>
     ensures { result ≡ position is_ascii_uppercase bytes.now }
 {
     bytes.iter().position(|byte| byte.is_ascii_uppercase())
 }
 
-// The symbol and the digits of a piece.
+/// The symbol and the digits of a piece.
 fn split_symbol(piece: &[u8]) -> (&[u8], &[u8])
     requires { 0 < length piece.now }
     ensures symbol { result.0.now ≡ symbol_of piece.now }
@@ -96,7 +99,7 @@ fn split_symbol(piece: &[u8]) -> (&[u8], &[u8])
     piece.split_at(if has_small { 2 } else { 1 })
 }
 
-// The number that digits write, one where there is none, and what is too many where it is more than that.
+/// The number that digits write, one where there is none, and what is too many where it is more than that.
 fn read_count(digits: &[u8]) -> Option<u16>
     ensures { result ≡ (if is_count digits.now then Some (min TOO_MANY (count_of digits.now)) else None) }
 {
@@ -117,7 +120,7 @@ fn read_count(digits: &[u8]) -> Option<u16>
     Some(count)
 }
 
-// Adds so many atoms of a symbol to the totals, none of which becomes more than too many. Whether the symbol is known.
+/// Adds so many atoms of a symbol to the totals, none of which becomes more than too many. Whether the symbol is known.
 fn add(totals: &mut [u16; FORMULA_PLACES], symbol: &[u8], count: u16) -> bool
     requires count { count ≤ TOO_MANY }
     requires totals { (place : ℕ) → slice_index totals.old place ≤ TOO_MANY }
@@ -136,7 +139,7 @@ fn add(totals: &mut [u16; FORMULA_PLACES], symbol: &[u8], count: u16) -> bool
     known
 }
 
-// Whether a formula may have these counts.
+/// Whether a formula may have these counts.
 fn all_fit(totals: &[u16; FORMULA_PLACES]) -> bool
     ensures { result ≡ list_all (λ total. nat_le total greatest_count) totals.now }
 {
