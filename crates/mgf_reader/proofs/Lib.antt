@@ -10,3 +10,4 @@ pub mod Extending
 pub mod Standing
 pub mod Answering
 pub mod OneReading
+pub mod KindOf

@@ -26,10 +26,42 @@ pub enum MgfKind {
     TooManyPeaks,
 }
 
-impl MgfKind {
-    ghost use Rattle.mgf_reader.specs.Fault.{kind_text};
+/// The kinds in the order of their numbers.
+const KINDS: [MgfKind; 10] = [
+    MgfKind::NestedBegin,
+    MgfKind::StrayEnd,
+    MgfKind::OpenBlock,
+    MgfKind::PeakOutside,
+    MgfKind::BadPeak,
+    MgfKind::BadPrecursor,
+    MgfKind::BadCharge,
+    MgfKind::NoForm,
+    MgfKind::LineTooLong,
+    MgfKind::TooManyPeaks,
+];
 
-    /// The words that name it in reports.
+impl MgfKind {
+    ghost use Rattle.mgf_reader.specs.Fault.{kind_number, kind_of_number, kind_of_text, kind_text};
+
+    /// Its number, from 1 to 10.
+    pub fn number(&self) -> u8
+        ensures { result ≡ kind_number self.now }
+    {
+        match self {
+            MgfKind::NestedBegin => 1,
+            MgfKind::StrayEnd => 2,
+            MgfKind::OpenBlock => 3,
+            MgfKind::PeakOutside => 4,
+            MgfKind::BadPeak => 5,
+            MgfKind::BadPrecursor => 6,
+            MgfKind::BadCharge => 7,
+            MgfKind::NoForm => 8,
+            MgfKind::LineTooLong => 9,
+            MgfKind::TooManyPeaks => 10,
+        }
+    }
+
+    /// The word that names it in reports and documents.
     pub fn text(&self) -> &'static str
         ensures { result.now ≡ kind_text self.now }
     {
@@ -45,6 +77,30 @@ impl MgfKind {
             MgfKind::LineTooLong => "line-too-long",
             MgfKind::TooManyPeaks => "too-many-peaks",
         }
+    }
+
+    /// The kind of a number. `None` where no kind has it.
+    pub fn of_number(number: u8) -> Option<MgfKind>
+        ensures { result ≡ kind_of_number number }
+    {
+        for kind in KINDS {
+            if kind.number() == number {
+                return Some(kind);
+            }
+        }
+        None
+    }
+
+    /// The kind of a word. `None` where no kind has it.
+    pub fn of_text(text: &[u8]) -> Option<MgfKind>
+        ensures { result ≡ kind_of_text text.now }
+    {
+        for kind in KINDS {
+            if kind.text().as_bytes() == text {
+                return Some(kind);
+            }
+        }
+        None
     }
 }
 

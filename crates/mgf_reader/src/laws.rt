@@ -3,7 +3,9 @@ ghost use Rattle.std.specs.Prelude.{◌≡◌, ◌++◌, ℕ, List, Option, Some
 ghost use Rattle.mgf_reader.specs.Grammar.{Reads, SoFar};
 ghost use Rattle.mgf_reader.specs.Spectrum.{SpectrumValue};
 ghost use Rattle.mgf_reader.specs.Stands.{Broken};
+ghost use Rattle.mgf_reader.specs.Fault.{kind_number, kind_of_number, kind_of_text, kind_text};
 ghost use Rattle.mgf_reader.specs.declared.fault.MgfFault.{MgfFault};
+ghost use Rattle.mgf_reader.specs.declared.fault.MgfKind.{MgfKind};
 
 /// A text is read in one way only: two readings of it have the same spectra and the same fault, whether it is at its end or may
 /// still go on.
@@ -23,4 +25,13 @@ pub fn a_longer_text_keeps_its_spectra()
         → Broken (Reads (text ++ more)) spectra }
     ensures fault { (text more : List ℕ) (spectra : List SpectrumValue) (fault : MgfFault) → SoFar text spectra (Some fault)
         → SoFar (text ++ more) spectra (Some fault) × Reads (text ++ more) spectra (Some fault) }
+{}
+
+/// A kind has one number and one word, and no other kind has them: its number is that of no other, from 1 to 10, and a word is
+/// read as the kind that it names.
+pub fn a_kind_has_one_number_and_one_word()
+    ensures number { (kind : MgfKind) → kind_of_number (kind_number kind) ≡ Some kind }
+    ensures text { (kind : MgfKind) → kind_of_text (kind_text kind) ≡ Some kind }
+    ensures numbered { (number : ℕ) (kind : MgfKind) → kind_of_number number ≡ Some kind → kind_number kind ≡ number }
+    ensures spelled { (text : List ℕ) (kind : MgfKind) → kind_of_text text ≡ Some kind → kind_text kind ≡ text }
 {}
