@@ -1,4 +1,4 @@
--- Worked numerals, computed.
+-- For `readable_units`, `is_numeral` and `fixed_text`: worked numerals, computed.
 use Rattle.std.proofs.Common.{◌≡◌, ◌^◌, Some, None, false, refl}
 use Rattle.std.specs.Prelude.{codes}
 use Rattle.std.specs.Fmt.{digits}

@@ -1,5 +1,5 @@
-pub mod Digits
+pub mod DigitsValue
 pub mod Examples
-pub mod Grammar
-pub mod Rounding
-pub mod Reading
+pub mod IsNumeral
+pub mod UnitsOf
+pub mod ReadableUnits

@@ -1,4 +1,4 @@
 pub mod Numeral
 pub mod Units
 pub mod FixedText
-pub mod Tenths
+pub mod inside

@@ -1,5 +1,5 @@
 -- Numerals: the parts of a text, and which texts are numerals.
-use Rattle.std.specs.Prelude.{◌++◌, ℕ, List, Bool, ◌&&◌, ◌||◌, not, ◌==◌, nat_lt, length, if◌then◌else◌}
+use Rattle.std.specs.Prelude.{◌++◌, ◌^◌, ℕ, List, Bool, Option, Some, None, ◌&&◌, ◌||◌, not, ◌==◌, nat_lt, length, if◌then◌else◌}
 use Rattle.std.specs.List.{before_first, after_first, list_any}
 use Rattle.std.specs.Str.{all_ascii_digits}
 use Rattle.std.specs.Str.Parse.{without_leading_plus, without_leading_sign, starts_with_minus, digits_value}
@@ -30,11 +30,17 @@ exponent_of text = after_first is_mark text
 abbrev pub is_digits : List ℕ → Bool
 is_digits bytes = nat_lt 0 (length bytes) && all_ascii_digits bytes
 
+-- the number that digits write, where there is one and it is below 2 ^ 64
+abbrev pub number_of_digits : List ℕ → Option ℕ
+number_of_digits bytes =
+    if is_digits bytes && nat_lt (digits_value 10 bytes) (2 ^ 64) then Some (digits_value 10 bytes) else None
+
 -- where there is a mark, an optional sign and at least one digit stand behind it
 unfoldable pub is_exponent : List ℕ → Bool
 is_exponent text = not (list_any is_mark text) || is_digits (without_leading_sign (exponent_of text))
 
--- a numeral: an optional plus, then digits, before and behind an optional point, at least one in all, and then the exponent
+-- a numeral: an optional plus, then digits, before and behind an optional point, at least one in all, and then the
+-- exponent
 unfoldable pub is_numeral : List ℕ → Bool
 is_numeral text = is_digits (whole_of text ++ fraction_of text) && is_exponent text
 

@@ -15,13 +15,21 @@ denominator_of text = 10 ^ (length (fraction_of text) + lower_of text)
 unfoldable pub units_of : ℕ → List ℕ → ℕ
 units_of scale text = (2 * numerator_of scale text + denominator_of text) / (2 * denominator_of text)
 
--- how many bytes a numeral may have, and how many units it may stand for
-abbrev pub longest_numeral : ℕ
-longest_numeral = 40
+-- how many places the scale may have at which a numeral is read
+abbrev pub greatest_scale : ℕ
+greatest_scale = 9
 
-abbrev pub most_units : ℕ
-most_units = 10 ^ 18
+-- how many bytes a numeral may have
+abbrev pub greatest_numeral_length : ℕ
+greatest_numeral_length = 40
+
+-- how many units a numeral may stand for
+abbrev pub greatest_units : ℕ
+greatest_units = 10 ^ 18
 
 -- the units of a text that is read: a numeral that is not too long and stands for no more than the most units
 abbrev pub readable_units : ℕ → List ℕ → Option ℕ
-readable_units scale text = if is_numeral text && nat_le (length text) longest_numeral && nat_le (units_of scale text) most_units then Some (units_of scale text) else None
+readable_units scale text =
+    if is_numeral text && nat_le (length text) greatest_numeral_length && nat_le (units_of scale text) greatest_units
+    then Some (units_of scale text)
+    else None

@@ -1,20 +1,20 @@
 //! The text of a number of units.
 ghost use Rattle.std.specs.Prelude.{◌≡◌, ◌≤◌, ◌<◌, ◌^◌, ◌∷◌, ◌++◌, ℕ, List, [], length, drop, decimal};
-ghost use Rattle.fixed_mass.specs.FixedText.{fixed_text, decimals_of};
+ghost use Rattle.fixed_mass.specs.FixedText.{fixed_text, decimals_of, greatest_text_length, mass_places};
 
 use crate::powers::POWERS_OF_TEN;
 use std::marker::Model;
 
 /// How many bytes a text may have.
-const ROOM: usize = 24;
+const GREATEST_TEXT_LENGTH: usize = 24;
 
 /// How many decimals a number of units of masses and m/z has.
-const PLACES: usize = 7;
+const MASS_PLACES: usize = 7;
 
 /// A short text, kept in place.
 #[derive(Debug, Drop)]
 pub struct FixedText {
-    bytes: [u8; ROOM],
+    bytes: [u8; GREATEST_TEXT_LENGTH],
     start: usize,
 }
 
@@ -23,22 +23,23 @@ impl Model for FixedText {
 
     ghost view = { λ text. drop text.start text.bytes };
 
-    ghost invariant = { λ text. text.start ≤ 24 };
+    ghost invariant = { λ text. text.start ≤ greatest_text_length };
 }
 
 impl FixedText {
+    /// The text of no byte.
     fn empty() -> FixedText
         ensures { result ≡ [] }
     {
         FixedText {
-            bytes: [0; ROOM],
-            start: ROOM,
+            bytes: [0; GREATEST_TEXT_LENGTH],
+            start: GREATEST_TEXT_LENGTH,
         }
     }
 
     /// Puts a byte before the others.
     fn prepend(&mut self, byte: u8)
-        requires { length self.old < 24 }
+        requires { length self.old < greatest_text_length }
         ensures { self.new ≡ byte ∷ self.old }
     {
         self.start -= 1;
@@ -55,22 +56,22 @@ impl FixedText {
 
 /// A number of units of 10^-7 as a decimal number: the whole part without leading zeros, a point, seven decimals.
 pub fn print_units(units: u64) -> FixedText
-    ensures text { result ≡ fixed_text 7 units }
-    ensures short { length result ≤ 24 }
+    ensures text { result ≡ fixed_text mass_places units }
+    ensures short { length result ≤ greatest_text_length }
 {
     let mut text = FixedText::empty();
     prepend_decimals(&mut text, units);
     text.prepend(b'.');
-    prepend_whole(&mut text, units / POWERS_OF_TEN[PLACES]);
+    prepend_whole(&mut text, units / POWERS_OF_TEN[MASS_PLACES]);
     text
 }
 
 /// Puts the decimals of a number of units before a text.
 fn prepend_decimals(text: &mut FixedText, units: u64)
     requires { length text.old ≤ 16 }
-    ensures { text.new ≡ decimals_of PLACES units ++ text.old }
+    ensures { text.new ≡ decimals_of mass_places units ++ text.old }
 {
-    for place in 0..PLACES {
+    for place in 0..MASS_PLACES {
         let digit = units / POWERS_OF_TEN[place] % 10;
         text.prepend(b'0' + digit as u8);
     }

@@ -4,10 +4,10 @@ ghost use Rattle.std.specs.List.{position_or_len};
 ghost use Rattle.std.specs.Str.{all_ascii_digits};
 ghost use Rattle.std.specs.Str.Parse.{digits_value, starts_with_minus, without_leading_plus, without_leading_sign};
 ghost use Rattle.fixed_mass.specs.Numeral.{is_mark, is_point, is_digits, is_exponent, is_numeral, whole_of, fraction_of, raise_by, raise_of, lower_by, lower_of};
-ghost use Rattle.fixed_mass.specs.declared.numeral.TheConstants.{MOST_PLACES};
+ghost use Rattle.fixed_mass.specs.inside.Tenths.{greatest_places};
 
 /// From here on a further place of an exponent changes no answer for a text that is short enough to be read.
-pub const MOST_PLACES: usize = 99;
+const GREATEST_PLACES: usize = 99;
 
 /// A numeral in its parts. At most one of the two numbers of places is above 0.
 #[derive(Clone, Copy)]
@@ -22,8 +22,8 @@ pub struct Numeral<'a> {
     pub lowered: usize,
     ghost whole_is_digits: { IsTrue (all_ascii_digits whole.now) },
     ghost fraction_is_digits: { IsTrue (all_ascii_digits fraction.now) },
-    ghost raised_in_range: { raised ≤ MOST_PLACES },
-    ghost lowered_in_range: { lowered ≤ MOST_PLACES },
+    ghost raised_in_range: { raised ≤ greatest_places },
+    ghost lowered_in_range: { lowered ≤ greatest_places },
 }
 
 impl<'a> Numeral<'a> {
@@ -32,8 +32,8 @@ impl<'a> Numeral<'a> {
         ensures numeral { IfSome result (λ _. is_numeral text.now ≡ true) }
         ensures whole { IfSome result (λ numeral. numeral.whole.now ≡ whole_of text.now) }
         ensures fraction { IfSome result (λ numeral. numeral.fraction.now ≡ fraction_of text.now) }
-        ensures raised { IfSome result (λ numeral. numeral.raised ≡ min (raise_of text.now) MOST_PLACES) }
-        ensures lowered { IfSome result (λ numeral. numeral.lowered ≡ min (lower_of text.now) MOST_PLACES) }
+        ensures raised { IfSome result (λ numeral. numeral.raised ≡ min (raise_of text.now) greatest_places) }
+        ensures lowered { IfSome result (λ numeral. numeral.lowered ≡ min (lower_of text.now) greatest_places) }
         ensures none { IsNone result → is_numeral text.now ≡ false }
     {
         let mark = mark_place(text);
@@ -108,7 +108,7 @@ fn is_significand(whole: &[u8], fraction: &[u8]) -> bool
 }
 
 /// Whether each byte is a decimal digit.
-fn is_all_digits(bytes: &[u8]) -> bool
+pub fn is_all_digits(bytes: &[u8]) -> bool
     ensures { result ≡ all_ascii_digits bytes.now }
 {
     bytes.iter().all(|byte| byte.is_ascii_digit())
@@ -119,8 +119,8 @@ fn is_all_digits(bytes: &[u8]) -> bool
 fn exponent_places(text: &[u8], mark: usize) -> Option<(usize, usize)>
     requires place { mark ≡ position_or_len is_mark text.now }
     requires within { mark ≤ length text.now }
-    ensures raised { IfSome result (λ places. places.0 ≡ min (raise_of text.now) MOST_PLACES) }
-    ensures lowered { IfSome result (λ places. places.1 ≡ min (lower_of text.now) MOST_PLACES) }
+    ensures raised { IfSome result (λ places. places.0 ≡ min (raise_of text.now) greatest_places) }
+    ensures lowered { IfSome result (λ places. places.1 ≡ min (lower_of text.now) greatest_places) }
     ensures some { IfSome result (λ _. is_exponent text.now ≡ true) }
     ensures none { IsNone result → is_exponent text.now ≡ false }
 {
@@ -132,8 +132,8 @@ fn exponent_places(text: &[u8], mark: usize) -> Option<(usize, usize)>
 
 /// By how many places an exponent with its sign raises the digits, and by how many it lowers them.
 fn read_exponent(exponent: &[u8]) -> Option<(usize, usize)>
-    ensures raised { IfSome result (λ places. places.0 ≡ min (raise_by exponent.now) MOST_PLACES) }
-    ensures lowered { IfSome result (λ places. places.1 ≡ min (lower_by exponent.now) MOST_PLACES) }
+    ensures raised { IfSome result (λ places. places.0 ≡ min (raise_by exponent.now) greatest_places) }
+    ensures lowered { IfSome result (λ places. places.1 ≡ min (lower_by exponent.now) greatest_places) }
     ensures some { IfSome result (λ _. is_digits (without_leading_sign exponent.now) ≡ true) }
     ensures none { IsNone result → is_digits (without_leading_sign exponent.now) ≡ false }
 {
@@ -166,7 +166,7 @@ fn has_minus(exponent: &[u8]) -> bool
 /// The number that digits write, or the greatest that still matters where it is greater. `None` unless there is at
 /// least one byte and each is a digit.
 fn read_places(digits: &[u8]) -> Option<usize>
-    ensures places { IfSome result (λ places. places ≡ min (digits_value 10 digits.now) MOST_PLACES) }
+    ensures places { IfSome result (λ places. places ≡ min (digits_value 10 digits.now) greatest_places) }
     ensures digits { IfSome result (λ _. is_digits digits.now ≡ true) }
     ensures none { IsNone result → is_digits digits.now ≡ false }
 {
@@ -179,11 +179,11 @@ fn read_places(digits: &[u8]) -> Option<usize>
 /// The number that digits write, or the greatest that still matters where it is greater.
 fn capped_value(digits: &[u8]) -> usize
     requires { IsTrue (all_ascii_digits digits.now) }
-    ensures { result ≡ min (digits_value 10 digits.now) MOST_PLACES }
+    ensures { result ≡ min (digits_value 10 digits.now) greatest_places }
 {
     let mut value = 0;
     for digit in digits {
-        value = MOST_PLACES.min(10 * value + usize::from(*digit - b'0'));
+        value = GREATEST_PLACES.min(10 * value + usize::from(*digit - b'0'));
     }
     value
 }

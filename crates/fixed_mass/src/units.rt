@@ -4,17 +4,18 @@ ghost use Rattle.std.specs.Result.{result_ok};
 ghost use Rattle.std.specs.Str.{all_ascii_digits};
 ghost use Rattle.std.specs.Str.Parse.{digits_value, digits_value_after};
 ghost use Rattle.fixed_mass.specs.Numeral.{is_numeral};
-ghost use Rattle.fixed_mass.specs.Tenths.{leading_of, rounded_of, tenths_of};
-ghost use Rattle.fixed_mass.specs.Units.{longest_numeral, most_units, readable_units, units_of};
+ghost use Rattle.fixed_mass.specs.inside.Tenths.{leading_of, rounded_of, tenths_of};
+ghost use Rattle.fixed_mass.specs.Numeral.{is_digits, number_of_digits};
+ghost use Rattle.fixed_mass.specs.Units.{greatest_numeral_length, greatest_scale, greatest_units, readable_units, units_of};
 
-use crate::numeral::Numeral;
+use crate::numeral::{Numeral, is_all_digits};
 use crate::powers::POWERS_OF_TEN;
 
 /// How many bytes a numeral may have.
-const LONGEST: usize = 40;
+const GREATEST_NUMERAL_LENGTH: usize = 40;
 
 /// How many units a numeral may stand for.
-const MOST_UNITS: u64 = 1_000_000_000_000_000_000;
+const GREATEST_UNITS: u64 = 1_000_000_000_000_000_000;
 
 /// Why a text is not read as a number of units.
 #[derive(Clone, Copy, Debug, PartialEq, Eq)]
@@ -27,23 +28,24 @@ pub enum NumeralFault {
     OutOfRange,
 }
 
-/// The value of a decimal numeral in units of 10^-scale, rounded to whole units, half a unit up.
+/// The value of a decimal numeral in units of 10^-scale, of a scale of at most 9, rounded to whole units, half a unit up.
 pub fn read_units(text: &[u8], scale: u8) -> Result<u64, NumeralFault>
-    requires { scale ≤ 9 }
+    requires { scale ≤ greatest_scale }
     ensures units { result_ok result ≡ readable_units scale text.now }
-    ensures range { IfOk result (λ units. units ≤ most_units) }
+    ensures range { IfOk result (λ units. units ≤ greatest_units) }
 
     // The faults, in this order.
     ensures not_a_numeral { (result ≡ Err NumeralFault.NotANumeral) ↔ (is_numeral text.now ≡ false) }
     ensures too_long { (result ≡ Err NumeralFault.TooLong)
-        ↔ (IsTrue (is_numeral text.now) × (longest_numeral < length text.now)) }
+        ↔ (IsTrue (is_numeral text.now) × (greatest_numeral_length < length text.now)) }
     ensures out_of_range { (result ≡ Err NumeralFault.OutOfRange)
-        ↔ (IsTrue (is_numeral text.now) × (length text.now ≤ longest_numeral) × (most_units < units_of scale text.now)) }
+        ↔ (IsTrue (is_numeral text.now) × (length text.now ≤ greatest_numeral_length)
+        × (greatest_units < units_of scale text.now)) }
 {
     let Some(numeral) = Numeral::of(text) else {
         return Err(NumeralFault::NotANumeral);
     };
-    if text.len() > LONGEST {
+    if text.len() > GREATEST_NUMERAL_LENGTH {
         return Err(NumeralFault::TooLong);
     }
     match rounded_units(&numeral, scale) {
@@ -52,18 +54,29 @@ pub fn read_units(text: &[u8], scale: u8) -> Result<u64, NumeralFault>
     }
 }
 
+/// The number that decimal digits write. `None` unless there is at least one byte, each is a digit, and the number is
+/// below 2^64.
+pub fn read_digits(digits: &[u8]) -> Option<u64>
+    ensures { result ≡ number_of_digits digits.now }
+{
+    if digits.is_empty() || !is_all_digits(digits) {
+        return None;
+    }
+    read_on(0, digits)
+}
+
 /// The rounded number of units. `None` where it is above the most.
 fn rounded_units(numeral: &Numeral<'_>, scale: u8) -> Option<u64>
-    requires { scale ≤ 9 }
+    requires { scale ≤ greatest_scale }
     ensures some { IfSome result (λ units. units ≡ rounded_of scale numeral.now.whole.now
         numeral.now.fraction.now numeral.now.raised numeral.now.lowered) }
-    ensures within { IfSome result (λ units. units ≤ most_units) }
-    ensures none { IsNone result → most_units < rounded_of scale numeral.now.whole.now
+    ensures within { IfSome result (λ units. units ≤ greatest_units) }
+    ensures none { IsNone result → greatest_units < rounded_of scale numeral.now.whole.now
         numeral.now.fraction.now numeral.now.raised numeral.now.lowered }
 {
     let tenths = tenths(numeral, scale)?;
     let units = tenths / 10 + u64::from(tenths % 10 >= 5);
-    if units <= MOST_UNITS {
+    if units <= GREATEST_UNITS {
         Some(units)
     } else {
         None
@@ -72,7 +85,7 @@ fn rounded_units(numeral: &Numeral<'_>, scale: u8) -> Option<u64>
 
 /// The tenths of units that a numeral stands for, rounded down. `None` where they do not fit.
 fn tenths(numeral: &Numeral<'_>, scale: u8) -> Option<u64>
-    requires { scale ≤ 9 }
+    requires { scale ≤ greatest_scale }
     ensures some { IfSome result (λ tenths. tenths ≡ tenths_of scale numeral.now.whole.now
         numeral.now.fraction.now numeral.now.raised numeral.now.lowered) }
     ensures none { IsNone result → 2 ^ 64 ≤ tenths_of scale numeral.now.whole.now
@@ -96,7 +109,8 @@ fn raised_value(value: u64, places: usize) -> Option<u64>
     value.checked_mul(*power)
 }
 
-/// The number that the digits before and behind the point write, without the last of them. `None` where it does not fit.
+/// The number that the digits before and behind the point write, without the last of them. `None` where it does not
+/// fit.
 fn leading_value(whole: &[u8], fraction: &[u8], dropped: usize) -> Option<u64>
     requires whole { IsTrue (all_ascii_digits whole.now) }
     requires fraction { IsTrue (all_ascii_digits fraction.now) }
@@ -129,7 +143,7 @@ mod tests {
     use super::*;
     use NumeralFault::{NotANumeral, OutOfRange, TooLong};
 
-    const MOST: u64 = 1_000_000_000_000_000_000;
+    const GREATEST: u64 = 1_000_000_000_000_000_000;
 
     #[test]
     fn reads_numerals_to_whole_units(rt: HostRuntime) {
@@ -157,11 +171,11 @@ mod tests {
             ("0.49", 0, 0),
             ("1.5", 0, 2),
             ("1.0000000005", 9, 1_000_000_001),
-            ("100000000000", 7, MOST),
-            ("100000000000.00000004", 7, MOST),
-            ("99999999999.99999995", 7, MOST),
-            ("1e11", 7, MOST),
-            ("1000000000000000000.4", 0, MOST),
+            ("100000000000", 7, GREATEST),
+            ("100000000000.00000004", 7, GREATEST),
+            ("99999999999.99999995", 7, GREATEST),
+            ("1e11", 7, GREATEST),
+            ("1000000000000000000.4", 0, GREATEST),
             ("1e00000000000000000000000000000000000001", 7, 100_000_000),
             ("0e99999999999999999999999999999999999999", 7, 0),
             ("1e-9999999999999999999999999999999999999", 7, 0),
@@ -175,6 +189,22 @@ mod tests {
         ] {
             assert!(rt; scale <= 9);
             assert_eq!(rt; read_units(text.as_bytes(), scale), Ok(want), "at {text}");
+        }
+    }
+
+    #[test]
+    fn reads_digits(rt: HostRuntime) {
+        for (digits, want) in [
+            ("", None),
+            ("0", Some(0)),
+            ("007", Some(7)),
+            ("18446744073709551615", Some(u64::MAX)),
+            ("18446744073709551616", None),
+            ("+1", None),
+            ("1.", None),
+            ("1 ", None),
+        ] {
+            assert_eq!(rt; read_digits(digits.as_bytes()), want, "at {digits}");
         }
     }
 

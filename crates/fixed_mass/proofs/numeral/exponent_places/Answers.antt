@@ -2,7 +2,7 @@ use Rattle.std.proofs.Common.{◌≡◌, ◌+◌, ◌∙◌, Bool, true, drop, s
 use Rattle.std.specs.Prelude.{IfSome}
 use Rattle.std.specs.Str.Parse.{without_leading_sign}
 use Rattle.fixed_mass.specs.Numeral.{exponent_of, is_digits, is_exponent}
-use Rattle.fixed_mass.proofs.Grammar.{is_exponent-no_mark, is_exponent-mark}
+use Rattle.fixed_mass.proofs.IsNumeral.{is_exponent-no_mark, is_exponent-mark}
 use Rattle.fixed_mass.proofs.numeral.exponent_places.Goals as goal
 
 pub returns-then-mark-text-clause-some : goal.returns-then-mark-text-clause-some

@@ -3,7 +3,7 @@ use Rattle.std.specs.Char.{is_ascii_digit}
 use Rattle.std.specs.List.{list_all}
 use Rattle.std.proofs.lemmas.Iterator.{YieldsList-from_slice}
 use Rattle.std.proofs.lemmas.Iterator.Search.{all_from_yields_List}
-use Rattle.fixed_mass.proofs.Digits.{all_is}
+use Rattle.fixed_mass.proofs.DigitsValue.{all_is}
 use Rattle.fixed_mass.proofs.numeral.is_all_digits.Goals as goal
 
 pub returns : goal.returns

@@ -1,6 +1,6 @@
 use Rattle.std.proofs.Common.{◌∙◌, ◌+◌, ◌<◌, length, sym, arith}
 use Rattle.std.proofs.lemmas.Bool.Decides.{nat_tests}
-use Rattle.fixed_mass.proofs.Grammar.{is_digits-append, is_digits-append_false}
+use Rattle.fixed_mass.proofs.IsNumeral.{is_digits-append, is_digits-append_false}
 use Rattle.fixed_mass.proofs.numeral.is_significand.Goals as goal
 
 pub returns-then-is_all_digits : goal.returns-then-is_all_digits

@@ -3,7 +3,7 @@ use Rattle.std.specs.Prelude.{position, unwrap_or}
 use Rattle.std.proofs.lemmas.Iterator.{YieldsList-from_slice}
 use Rattle.std.proofs.lemmas.Iterator.Search.{position_from_yields_List}
 use Rattle.fixed_mass.specs.Numeral.{is_mark}
-use Rattle.fixed_mass.proofs.Grammar.{place_is}
+use Rattle.fixed_mass.proofs.IsNumeral.{place_is}
 use Rattle.fixed_mass.proofs.numeral.mark_place.Goals as goal
 
 pub returns-clause-place : goal.returns-clause-place

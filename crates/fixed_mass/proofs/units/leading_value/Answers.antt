@@ -1,9 +1,9 @@
 use Rattle.std.proofs.Common.{◌≡◌, ◌∙◌, ◌-◌, ℕ, ap, subst, refl, take, arith}
 use Rattle.std.specs.Prelude.{IfSome}
 use Rattle.std.specs.Str.Parse.{digits_value_after}
-use Rattle.fixed_mass.proofs.Digits.{after_ge}
-use Rattle.fixed_mass.proofs.Grammar.{all_take}
-use Rattle.fixed_mass.proofs.Rounding.{leading_of-parts}
+use Rattle.fixed_mass.proofs.DigitsValue.{after_ge}
+use Rattle.fixed_mass.proofs.IsNumeral.{all_take}
+use Rattle.fixed_mass.proofs.UnitsOf.{leading_of-parts}
 use Rattle.fixed_mass.proofs.units.leading_value.Goals as goal
 
 pub read_on-requires : goal.read_on-requires

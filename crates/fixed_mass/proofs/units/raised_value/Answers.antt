@@ -1,7 +1,7 @@
 use Rattle.std.proofs.Common.{◌≡◌, ℕ, ◌*◌, ◌^◌, ◌∙◌, Option, Some, None, ap, arith}
 use Rattle.std.specs.Prelude.{IfSome, IsNone}
 use Rattle.std.specs.Option.{SomeIff}
-use Rattle.fixed_mass.proofs.Rounding.{power_at, past_table}
+use Rattle.fixed_mass.proofs.UnitsOf.{power_at, past_table}
 use Rattle.fixed_mass.proofs.units.raised_value.Goals as goal
 
 some_value : (r : Option ℕ) (P : Type 0) (v w : ℕ) → SomeIff r P v → v ≡ w → IfSome r (λ x. x ≡ w)

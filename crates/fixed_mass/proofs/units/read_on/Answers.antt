@@ -1,5 +1,5 @@
 use Rattle.std.proofs.Common.{◌+◌, arith}
-use Rattle.fixed_mass.proofs.Digits.{digit_in, after_more, after_take-le}
+use Rattle.fixed_mass.proofs.DigitsValue.{digit_in, after_more, after_take-le}
 use Rattle.fixed_mass.proofs.units.read_on.Goals as goal
 
 pub overflow_sub-digit : goal.overflow_sub-digit

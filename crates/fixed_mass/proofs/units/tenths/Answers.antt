@@ -1,8 +1,8 @@
 use Rattle.std.proofs.Common.{◌≡◌, ℕ, ◌+◌, ◌-◌, ◌*◌, ◌^◌, ◌≤◌, ◌++◌, ◌∙◌, ap, sym, refl, subst, length, arith}
 use Rattle.std.specs.Prelude.{IfSome}
-use Rattle.fixed_mass.specs.Tenths.{leading_of}
-use Rattle.fixed_mass.proofs.Grammar.{all_join}
-use Rattle.fixed_mass.proofs.Rounding.{tenths_of-leading, le_product}
+use Rattle.fixed_mass.specs.inside.Tenths.{leading_of}
+use Rattle.fixed_mass.proofs.IsNumeral.{all_join}
+use Rattle.fixed_mass.proofs.UnitsOf.{tenths_of-leading, le_product}
 use Rattle.fixed_mass.proofs.units.tenths.Goals as goal
 
 pub returns-in_err-value-clause-none : goal.returns-in_err-value-clause-none

@@ -1,6 +1,6 @@
 use Rattle.std.proofs.Common.{◌≡◌, ◌∙◌, ◌++◌, true, sym, refl, take, arith}
 use Rattle.std.specs.Str.{all_ascii_digits}
-use Rattle.fixed_mass.proofs.Grammar.{digits_cut, all_of_digits, all_front, all_back, is_numeral-no_digits, is_numeral-no_exponent, is_numeral-parts}
+use Rattle.fixed_mass.proofs.IsNumeral.{digits_cut, all_of_digits, all_front, all_back, is_numeral-no_digits, is_numeral-no_exponent, is_numeral-parts}
 use Rattle.fixed_mass.proofs.numeral.Numeral.of.Goals as goal
 
 pub returns-then-not-is_significand-clause-none : goal.returns-then-not-is_significand-clause-none

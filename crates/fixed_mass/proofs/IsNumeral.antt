@@ -1,4 +1,4 @@
--- The grammar's tests, as the code makes them.
+-- For `is_numeral`: the tests of the grammar, as the code makes them.
 use Rattle.std.proofs.Common.{◌≡◌, ℕ, ◌+◌, ◌<◌, ◌≤◌, Bool, true, false, cond, ltb, List, [], ◌∷◌, ◌++◌, length, take, drop, Some, None, refl, ap, sym, ◌∙◌, arith}
 use Rattle.std.specs.Prelude.{◌&&◌, not, position, unwrap_or}
 use Rattle.std.specs.Char.{is_ascii_digit}

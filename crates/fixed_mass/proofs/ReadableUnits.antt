@@ -1,13 +1,13 @@
--- What a text is read as, by what its parts stand for.
+-- For `readable_units`: what a text is read as, by what its parts stand for.
 use Rattle.std.proofs.Common.{◌≡◌, ℕ, ◌<◌, ◌≤◌, ◌^◌, ◌++◌, Bool, true, cond, leb, List, Some, None, length, min, ap, sym, ◌∙◌, ⊎_elim, arith}
 use Rattle.std.specs.Prelude.{◌&&◌}
 use Rattle.std.specs.Str.{all_ascii_digits}
 use Rattle.std.proofs.lemmas.Bool.Decides.{nat_tests}
 use Rattle.fixed_mass.specs.Numeral.{is_numeral, is_digits, is_exponent, whole_of, fraction_of, raise_of, lower_of}
 use Rattle.fixed_mass.specs.Units.{units_of, readable_units}
-use Rattle.fixed_mass.specs.Tenths.{rounded_of}
-use Rattle.fixed_mass.proofs.Grammar.{and_left, all_of_digits}
-use Rattle.fixed_mass.proofs.Rounding.{units_of-capped}
+use Rattle.fixed_mass.specs.inside.Tenths.{rounded_of}
+use Rattle.fixed_mass.proofs.IsNumeral.{and_left, all_of_digits}
+use Rattle.fixed_mass.proofs.UnitsOf.{units_of-capped}
 
 all_of_numeral : (text : List ℕ) → is_numeral text ≡ true → all_ascii_digits (whole_of text ++ fraction_of text) ≡ true
 unfolding is_numeral

@@ -1,4 +1,4 @@
--- Decimal digits and the number that they write.
+-- For `digits_value_after`: decimal digits and the number that they write, one more at a time.
 use Rattle.std.proofs.Common.{◌≡◌, ℕ, ◌+◌, ◌-◌, ◌*◌, ◌<◌, ◌≤◌, zero, suc, true, List, [], ◌∷◌, ◌++◌, length, take, get_or, refl, ap, sym, ◌∙◌, min, arith}
 use Rattle.std.specs.Prelude.{fold, ◌&&◌}
 use Rattle.std.specs.Char.{is_ascii_digit, digit_value}

@@ -1,4 +1,4 @@
--- The units of a numeral by its first digits alone.
+-- For `units_of`: the units of a numeral by its first digits alone.
 use Rattle.std.proofs.Common.{◌≡◌, ℕ, ◌+◌, ◌-◌, ◌*◌, ◌/◌, ◌^◌, ◌<◌, ◌≤◌, suc, Bool, true, false, cond, List, [], ◌∷◌, ◌++◌, length, get_or, take, drop, map, refl, ap, sym, ◌∙◌, ◌⊎◌, inl, inr, ⊎_elim, min, eqb, subst, arith}
 use Rattle.std.specs.Char.{digit_value}
 use Rattle.std.specs.List.{range_with_len, position_or_len, before_first}
@@ -15,9 +15,9 @@ use Rattle.std.proofs.lemmas.Str.Parse.{digits_value_short}
 use Rattle.fixed_mass.specs.declared.powers.TheConstants.{POWERS_OF_TEN}
 use Rattle.fixed_mass.specs.Numeral.{is_mark, is_point, significand_of, exponent_of, whole_of, fraction_of, raise_of, lower_of}
 use Rattle.fixed_mass.specs.Units.{numerator_of, denominator_of, units_of}
-use Rattle.fixed_mass.specs.Tenths.{tenths_of, rounded_of, leading_of}
-use Rattle.fixed_mass.proofs.Digits.{own, after_append}
-use Rattle.fixed_mass.proofs.Grammar.{all_back}
+use Rattle.fixed_mass.specs.inside.Tenths.{tenths_of, rounded_of, leading_of}
+use Rattle.fixed_mass.proofs.DigitsValue.{own, after_append}
+use Rattle.fixed_mass.proofs.IsNumeral.{all_back}
 
 pub power_positive : (k : ℕ) → 0 < 10 ^ k
 power_positive k = one-le-pow k 10 (omega arith)
