@@ -1,4 +1,4 @@
--- What a trimmed list begins with.
+-- For `trimmed`: what a trimmed list begins with.
 use Rattle.std.proofs.Common.{◌≡◌, ◌∙◌, inl, inr, ℕ, Bool, false, List, [], ◌∷◌, ◌++◌, reverse, get_or, length, ◌≤◌, refl, sym, ap, arith}
 use Rattle.std.proofs.lemmas.Bool.{cases_Bool}
 use Rattle.std.proofs.lemmas.Bool.Decides.{nat_tests}

@@ -26,6 +26,7 @@ is_comment_mark byte = byte == 35 || (byte == 59 || (byte == 33 || byte == 47))
 abbrev pub is_peak_start : ℕ → Bool
 is_peak_start byte = is_ascii_digit byte || (byte == 46 || byte == 43)
 
+-- `=`
 abbrev pub is_equals : ℕ → Bool
 is_equals byte = byte == 61
 
@@ -46,7 +47,8 @@ put_first byte (part ∷ parts) = (byte ∷ part) ∷ parts
 -- the parts between the bytes that pass
 abbrev pub parts_of : (ℕ → Bool) → List ℕ → List (List ℕ)
 parts_of parts_at [] = [] ∷ []
-parts_of parts_at (byte ∷ bytes) = if parts_at byte then [] ∷ parts_of parts_at bytes else put_first byte (parts_of parts_at bytes)
+parts_of parts_at (byte ∷ bytes) =
+    if parts_at byte then [] ∷ parts_of parts_at bytes else put_first byte (parts_of parts_at bytes)
 
 -- the parts that hold something
 abbrev pub fields_by : (ℕ → Bool) → List ℕ → List (List ℕ)

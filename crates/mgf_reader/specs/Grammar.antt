@@ -1,5 +1,6 @@
--- The grammar of a text as a relation on its whole list of lines: lines outside and blocks in any order, and then a rest. The format is
--- the Mascot generic format as Matrix Science describes it; the leniencies and the refusals are this project's own.
+-- The grammar of a text as a relation on its whole list of lines: lines outside and blocks in any order, and then a rest.
+-- The format is the Mascot generic format as Matrix Science describes it; the leniencies and the refusals are this
+-- project's own.
 use Rattle.std.specs.Prelude.{◌≡◌, ◌+◌, ◌≤◌, ◌++◌, ℕ, List, [], ◌∷◌, Bool, true, false, nat_le, if◌then◌else◌, Option, Some, None, is_none, length}
 use Rattle.std.specs.Option.{option_to_list}
 use Rattle.std.specs.List.{AllByRecursion, flat_map}
@@ -7,17 +8,17 @@ use Rattle.mgf_reader.specs.declared.fault.MgfKind.{MgfKind}
 use Rattle.mgf_reader.specs.declared.fault.MgfKind.TheVariants.{NestedBegin, StrayEnd, OpenBlock, PeakOutside, BadPeak, NoForm, LineTooLong, TooManyPeaks}
 use Rattle.mgf_reader.specs.declared.fault.MgfFault.{MgfFault}
 use Rattle.mgf_reader.specs.Spectrum.{PeakValue, SpectrumValue}
-use Rattle.mgf_reader.specs.Form.{Form, too_long, begin, end, parameter, peak, no_form, form_of}
+use Rattle.mgf_reader.specs.LineForm.{LineForm, too_long, begin, end, parameter, peak, no_form, form_of}
 use Rattle.mgf_reader.specs.Parameter.{parameter_fault, title_of, precursor_of, charge_list_of}
 use Rattle.mgf_reader.specs.PeakLine.{peak_of}
 use Rattle.mgf_reader.specs.Text.{lines_of, judged_lines}
 
 -- how many peaks a block may have
-abbrev pub most_peaks : ℕ
-most_peaks = 100000
+abbrev pub greatest_peaks_of_a_block : ℕ
+greatest_peaks_of_a_block = 100000
 
 -- what is wrong with a line outside a block; a begin line is right there
-abbrev pub fault_outside : Form → Option MgfKind
+abbrev pub fault_outside : LineForm → Option MgfKind
 fault_outside too_long = Some LineTooLong
 fault_outside end = Some StrayEnd
 fault_outside (parameter name value) = parameter_fault name value
@@ -26,16 +27,19 @@ fault_outside no_form = Some NoForm
 fault_outside form = None
 
 -- what is wrong with a line in a block that has so many peaks; an end line is right there
-abbrev pub fault_inside : ℕ → Form → Option MgfKind
+abbrev pub fault_inside : ℕ → LineForm → Option MgfKind
 fault_inside peaks too_long = Some LineTooLong
 fault_inside peaks begin = Some NestedBegin
 fault_inside peaks (parameter name value) = parameter_fault name value
-fault_inside peaks (peak fields) = if is_none (peak_of 0 fields) then Some BadPeak else if nat_le most_peaks peaks then Some TooManyPeaks else None
+fault_inside peaks (peak fields) =
+    if is_none (peak_of 0 fields) then Some BadPeak
+    else if nat_le greatest_peaks_of_a_block peaks then Some TooManyPeaks
+    else None
 fault_inside peaks no_form = Some NoForm
 fault_inside peaks form = None
 
 -- the peak that a line of this number says, where it is a good peak line
-abbrev pub peak_in : ℕ → Form → List PeakValue
+abbrev pub peak_in : ℕ → LineForm → List PeakValue
 peak_in number (peak fields) = option_to_list (peak_of number fields)
 peak_in number form = []
 
@@ -55,9 +59,9 @@ pub record IsInside (line : List ℕ) : Type 0 where
   pub no_end : form_of line ≡ end → ⊥
 
 -- the lines of a block behind its begin line: each may stand there, and there are not too many peaks
-pub record IsBody (body : List (List ℕ)) : Type 0 where
+pub record IsBlockBody (body : List (List ℕ)) : Type 0 where
   pub lines : AllByRecursion IsInside body
-  pub peaks : length (peaks_of 0 body) ≤ most_peaks
+  pub peaks : length (peaks_of 0 body) ≤ greatest_peaks_of_a_block
 
 -- what a text consists of: a line outside, or a block with its begin line, its body and its end line
 pub data Piece : Type 0 where
@@ -70,29 +74,45 @@ piece_lines (block first body last) = first ∷ (body ++ last ∷ [])
 
 abbrev pub IsPiece : Piece → Type 0
 IsPiece (outside line) = IsOutside line
-IsPiece (block first body last) = (form_of first ≡ begin) × IsBody body × (form_of last ≡ end)
+IsPiece (block first body last) = (form_of first ≡ begin) × IsBlockBody body × (form_of last ≡ end)
 
--- The spectrum of a block, of which the begin line has this number. A key's value is that of the block's own last line of the key,
--- or else of the last line outside before it.
+-- The spectrum of a block, of which the begin line has this number. A key's value is that of the block's own last line of
+-- the key, or else of the last line outside before it.
 abbrev pub spectrum_of : List (List ℕ) → ℕ → List (List ℕ) → SpectrumValue
-spectrum_of before number body = record { line = number; title = title_of (before ++ body); precursor = precursor_of (before ++ body); charges = charge_list_of (before ++ body); peaks = peaks_of (number + 1) body }
+spectrum_of before number body = record {
+  line = number;
+  title = title_of (before ++ body);
+  precursor = precursor_of (before ++ body);
+  charges = charge_list_of (before ++ body);
+  peaks = peaks_of (number + 1) body;
+}
 
 -- the spectra of the blocks, in order, with the lines outside so far and the number of the next line
 abbrev pub spectra_of : List (List ℕ) → ℕ → List Piece → List SpectrumValue
 spectra_of before number [] = []
 spectra_of before number (outside line ∷ pieces) = spectra_of (before ++ line ∷ []) (number + 1) pieces
-spectra_of before number (block first body last ∷ pieces) = spectrum_of before number body ∷ spectra_of before (number + 2 + length body) pieces
+spectra_of before number (block first body last ∷ pieces) =
+    spectrum_of before number body ∷ spectra_of before (number + 2 + length body) pieces
 
--- The rest of a text, of which the first line has this number, and the fault that it leads to: nothing is left; a line has no place
--- outside; a line has no place in a block that was begun; or a block is still open, which is a fault where the text is at its end.
+-- The rest of a text, of which the first line has this number, and the fault that it leads to: nothing is left; a line has
+-- no place outside; a line has no place in a block that was begun; or a block is still open, which is a fault where the
+-- text is at its end.
 pub data Rest (at_end : Bool) (number : ℕ) (rest : List (List ℕ)) (fault : Option MgfFault) : Type 0 where
   nothing : rest ≡ [] → fault ≡ None → Rest at_end number rest fault
-  stray : (line : List ℕ) (more : List (List ℕ)) (kind : MgfKind) → rest ≡ line ∷ more → fault_outside (form_of line) ≡ Some kind → fault ≡ Some (record { line = number; kind = kind }) → Rest at_end number rest fault
-  refused : (first : List ℕ) (body : List (List ℕ)) (line : List ℕ) (more : List (List ℕ)) (kind : MgfKind) → rest ≡ first ∷ (body ++ line ∷ more) → form_of first ≡ begin → IsBody body → fault_inside (length (peaks_of 0 body)) (form_of line) ≡ Some kind → fault ≡ Some (record { line = number + 1 + length body; kind = kind }) → Rest at_end number rest fault
-  open_block : (first : List ℕ) (body : List (List ℕ)) → rest ≡ first ∷ body → form_of first ≡ begin → IsBody body → fault ≡ (if at_end then Some (record { line = number; kind = OpenBlock }) else None) → Rest at_end number rest fault
+  stray : (line : List ℕ) (more : List (List ℕ)) (kind : MgfKind) → rest ≡ line ∷ more
+      → fault_outside (form_of line) ≡ Some kind
+      → fault ≡ Some (record { line = number; kind = kind }) → Rest at_end number rest fault
+  refused : (first : List ℕ) (body : List (List ℕ)) (line : List ℕ) (more : List (List ℕ)) (kind : MgfKind)
+      → rest ≡ first ∷ (body ++ line ∷ more) → form_of first ≡ begin → IsBlockBody body
+      → fault_inside (length (peaks_of 0 body)) (form_of line) ≡ Some kind
+      → fault ≡ Some (record { line = number + 1 + length body; kind = kind }) → Rest at_end number rest fault
+  open_block : (first : List ℕ) (body : List (List ℕ)) → rest ≡ first ∷ body → form_of first ≡ begin → IsBlockBody body
+      → fault ≡ (if at_end then Some (record { line = number; kind = OpenBlock }) else None)
+      → Rest at_end number rest fault
 
 -- how some lines are read: as pieces, which give the spectra, and a rest, which gives the fault
-pub record ReadsLines (at_end : Bool) (lines : List (List ℕ)) (spectra : List SpectrumValue) (fault : Option MgfFault) : Type 0 where
+pub record ReadsLines (at_end : Bool) (lines : List (List ℕ)) (spectra : List SpectrumValue) (fault : Option MgfFault)
+    : Type 0 where
   pub pieces : List Piece
   pub rest : List (List ℕ)
   pub whole : lines ≡ flat_map piece_lines pieces ++ rest

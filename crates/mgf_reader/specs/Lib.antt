@@ -1,13 +1,10 @@
 pub mod Bytes
 pub mod Text
 pub mod Spectrum
-pub mod Form
+pub mod LineForm
 pub mod Parameter
 pub mod PeakLine
 pub mod Grammar
 pub mod Stands
-pub mod Line
 pub mod Fault
-pub mod ByteClass
-pub mod Judging
-pub mod Cutting
+pub mod inside

@@ -3,13 +3,14 @@ use Rattle.std.specs.Prelude.{◌++◌, ℕ, List, [], ◌∷◌, ◌==◌, if�
 use Rattle.std.specs.List.{starts_with}
 
 -- how many bytes a line may have before its line feed
-abbrev pub longest_line : ℕ
-longest_line = 65536
+abbrev pub greatest_line : ℕ
+greatest_line = 65536
 
 -- the three bytes that may mark a text's start and belong to no line
 abbrev pub byte_order_mark : List ℕ
 byte_order_mark = 239 ∷ 187 ∷ 191 ∷ []
 
+-- a text without the mark of its start
 abbrev pub without_mark : List ℕ → List ℕ
 without_mark text = if starts_with nat_eq text byte_order_mark then drop 3 text else text
 
@@ -24,7 +25,8 @@ ended_lines (byte ∷ bytes) = if byte == 10 then [] ∷ ended_lines bytes else 
 -- what stands after the last line feed
 abbrev pub unfinished_line : List ℕ → List ℕ
 unfinished_line [] = []
-unfinished_line (byte ∷ bytes) = if nat_lt 0 (length (ended_lines (byte ∷ bytes))) then unfinished_line bytes else (byte ∷ bytes)
+unfinished_line (byte ∷ bytes) =
+    if nat_lt 0 (length (ended_lines (byte ∷ bytes))) then unfinished_line bytes else (byte ∷ bytes)
 
 -- a list of one line, or of none where the line is empty
 abbrev pub line_if_any : List ℕ → List (List ℕ)
@@ -37,4 +39,8 @@ lines_of text = ended_lines (without_mark text) ++ line_if_any (unfinished_line 
 
 -- The lines that are judged while a text may still go on: those that are ended, and an unfinished one once it is too long.
 abbrev pub judged_lines : List ℕ → List (List ℕ)
-judged_lines text = ended_lines (without_mark text) ++ (if nat_lt longest_line (length (unfinished_line (without_mark text))) then unfinished_line (without_mark text) ∷ [] else [])
+judged_lines text = ended_lines (without_mark text) ++ (
+    if nat_lt greatest_line (length (unfinished_line (without_mark text)))
+    then unfinished_line (without_mark text) ∷ []
+    else []
+    )

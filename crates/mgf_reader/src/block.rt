@@ -2,10 +2,10 @@
 ghost use Rattle.std.specs.Prelude.{◌≡◌, ◌++◌, [], None, Some, IfOk, IfErr, IfSome, OnOk, length};
 ghost use Rattle.mgf_reader.specs.Parameter.{parameter_fault};
 ghost use Rattle.mgf_reader.specs.Bytes.{fields_of};
-ghost use Rattle.mgf_reader.specs.Form.{parameter, peak};
+ghost use Rattle.mgf_reader.specs.LineForm.{parameter, peak};
 ghost use Rattle.mgf_reader.specs.Grammar.{fault_inside};
-ghost use Rattle.mgf_reader.specs.Line.{form_of_line, kind_of};
-ghost use Rattle.mgf_reader.specs.Judging.{set_by, block_with, block_after, kind_in};
+ghost use Rattle.mgf_reader.specs.inside.Line.{form_of_line, kind_of};
+ghost use Rattle.mgf_reader.specs.inside.Judging.{set_by, block_with, block_after, kind_in};
 ghost use Rattle.mgf_reader.specs.declared.block.LineFault.TheVariants.{OutOfMemory};
 
 use crate::fault::MgfKind;
@@ -16,18 +16,20 @@ use std::alloc::{AllocError, AllocFailed, Global};
 use std::marker::Model;
 
 /// How many peaks a block may have.
-const MOST_PEAKS: usize = 100_000;
+const GREATEST_PEAKS_OF_A_BLOCK: usize = 100_000;
 
 /// Why a line is not taken in.
 #[derive(Clone, Copy)]
 pub enum LineFault {
+    /// The line has no place, or a value of it is refused.
     Refused(MgfKind),
+    /// There was no memory.
     OutOfMemory,
 }
 
 impl From<SettingFault> for LineFault {
-    ghost use Rattle.mgf_reader.specs.Judging.{kind_in};
-    ghost use Rattle.mgf_reader.specs.Line.{kind_of};
+    ghost use Rattle.mgf_reader.specs.inside.Judging.{kind_in};
+    ghost use Rattle.mgf_reader.specs.inside.Line.{kind_of};
 
     ghost from_gives = { λ fault e. kind_in e ≡ kind_of fault };
 
@@ -58,30 +60,35 @@ impl<T: Drop> From<AllocFailed<T>> for LineFault {
 
 /// What some lines set for a spectrum.
 #[derive(Drop)]
-pub struct Settings {
+pub struct SpectrumSettings {
     title: Vec<u8>,
     precursor: Option<u64>,
     charges: Vec<Charge>,
 }
 
-impl Model for Settings {
-    ghost use Rattle.std.specs.Prelude.{◌≤◌, ◌^◌};
+impl Model for SpectrumSettings {
+    ghost use Rattle.std.specs.Prelude.{◌≤◌};
     ghost use Rattle.std.specs.Option.{ForSome};
+    ghost use Rattle.fixed_mass.specs.Units.{greatest_units};
     ghost use Rattle.mgf_reader.specs.Stands.{Defaults};
 
     ghost Value = { Defaults };
 
-    ghost view = { λ settings. record { title = settings.title.items; precursor = settings.precursor; charges = settings.charges.items } };
+    ghost view = { λ settings. record {
+      title = settings.title.items;
+      precursor = settings.precursor;
+      charges = settings.charges.items;
+    } };
 
-    ghost invariant = { λ settings. ForSome settings.precursor (λ mz. mz ≤ 10 ^ 18) };
+    ghost invariant = { λ settings. ForSome settings.precursor (λ mz. mz ≤ greatest_units) };
 }
 
-impl Settings {
+impl SpectrumSettings {
     /// What no line sets.
-    pub fn new(alloc: Global) -> Settings
+    pub fn new(alloc: Global) -> SpectrumSettings
         ensures { result ≡ record { title = []; precursor = None; charges = [] } }
     {
-        Settings {
+        SpectrumSettings {
             title: Vec::new(alloc),
             precursor: None,
             charges: Vec::new(alloc),
@@ -89,10 +96,10 @@ impl Settings {
     }
 
     /// The same once more.
-    pub fn copied(&self, alloc: Global) -> Result<Settings, AllocError>
+    pub fn copied(&self, alloc: Global) -> Result<SpectrumSettings, AllocError>
         ensures { IfOk result (λ copy. copy ≡ self.now) }
     {
-        Ok(Settings {
+        Ok(SpectrumSettings {
             title: Vec::from_slice(alloc, &self.title)?,
             precursor: self.precursor,
             charges: Vec::from_slice(alloc, &self.charges)?,
@@ -101,8 +108,10 @@ impl Settings {
 
     /// Sets what a parameter line says.
     pub fn read(&mut self, alloc: Global, key: &[u8], value: &[u8]) -> Result<(), SettingFault>
-        ensures right { OnOk result ((parameter_fault key.now value.now ≡ None) × (self.new ≡ set_by self.old (parameter key.now value.now))) }
-        ensures refused { IfErr result (λ fault. IfSome (kind_of fault) (λ kind. parameter_fault key.now value.now ≡ Some kind)) }
+        ensures right { OnOk result ((parameter_fault key.now value.now ≡ None)
+            × (self.new ≡ set_by self.old (parameter key.now value.now))) }
+        ensures refused { IfErr result (λ fault.
+            IfSome (kind_of fault) (λ kind. parameter_fault key.now value.now ≡ Some kind)) }
     {
         match read_setting(alloc, key, value)? {
             Setting::Title(bytes) => {
@@ -123,13 +132,13 @@ impl Settings {
 #[derive(Drop)]
 pub struct Block {
     line: u32,
-    settings: Settings,
+    settings: SpectrumSettings,
     peaks: Vec<Peak>,
 }
 
 impl Model for Block {
     ghost use Rattle.mgf_reader.specs.Spectrum.{SpectrumValue};
-    ghost use Rattle.mgf_reader.specs.Judging.{block_with};
+    ghost use Rattle.mgf_reader.specs.inside.Judging.{block_with};
 
     ghost Value = { SpectrumValue };
 
@@ -138,7 +147,7 @@ impl Model for Block {
 
 impl Block {
     /// A block that begins at a line with a copy of the defaults.
-    pub fn new(alloc: Global, line: u32, defaults: &Settings) -> Result<Block, AllocError>
+    pub fn new(alloc: Global, line: u32, defaults: &SpectrumSettings) -> Result<Block, AllocError>
         ensures { IfOk result (λ block. block ≡ block_with line defaults.now []) }
     {
         Ok(Block {
@@ -157,8 +166,10 @@ impl Block {
 
     /// Takes a line of this number in. An end line changes nothing.
     pub fn take(&mut self, alloc: Global, line: Line<'_>, number: u32) -> Result<(), LineFault>
-        ensures right { OnOk result ((fault_inside (length self.old.peaks) (form_of_line line.entry) ≡ None) × (self.new ≡ block_after self.old number (form_of_line line.entry))) }
-        ensures refused { IfErr result (λ fault. IfSome (kind_in fault) (λ kind. fault_inside (length self.old.peaks) (form_of_line line.entry) ≡ Some kind)) }
+        ensures right { OnOk result ((fault_inside (length self.old.peaks) (form_of_line line.entry) ≡ None)
+            × (self.new ≡ block_after self.old number (form_of_line line.entry))) }
+        ensures refused { IfErr result (λ fault. IfSome (kind_in fault)
+            (λ kind. fault_inside (length self.old.peaks) (form_of_line line.entry) ≡ Some kind)) }
     {
         match line {
             Line::TooLong => Err(LineFault::Refused(MgfKind::LineTooLong)),
@@ -172,13 +183,15 @@ impl Block {
 
     /// Adds the peak of a peak line.
     fn add_peak(&mut self, bytes: &[u8], number: u32) -> Result<(), LineFault>
-        ensures right { OnOk result ((fault_inside (length self.old.peaks) (peak (fields_of bytes.now)) ≡ None) × (self.new ≡ block_after self.old number (peak (fields_of bytes.now)))) }
-        ensures refused { IfErr result (λ fault. IfSome (kind_in fault) (λ kind. fault_inside (length self.old.peaks) (peak (fields_of bytes.now)) ≡ Some kind)) }
+        ensures right { OnOk result ((fault_inside (length self.old.peaks) (peak (fields_of bytes.now)) ≡ None)
+            × (self.new ≡ block_after self.old number (peak (fields_of bytes.now)))) }
+        ensures refused { IfErr result (λ fault. IfSome (kind_in fault)
+            (λ kind. fault_inside (length self.old.peaks) (peak (fields_of bytes.now)) ≡ Some kind)) }
     {
         let Some(peak) = read_peak(bytes, number) else {
             return Err(LineFault::Refused(MgfKind::BadPeak));
         };
-        if self.peaks.len() >= MOST_PEAKS {
+        if self.peaks.len() >= GREATEST_PEAKS_OF_A_BLOCK {
             return Err(LineFault::Refused(MgfKind::TooManyPeaks));
         }
         self.peaks.push(peak)?;
@@ -189,7 +202,7 @@ impl Block {
     pub fn close(self) -> Spectrum
         ensures { result ≡ self }
     {
-        let Settings {
+        let SpectrumSettings {
             title,
             precursor,
             charges,

@@ -2,8 +2,8 @@
 ghost use Rattle.std.specs.Prelude.{◌≡◌, ◌≤◌, ◌<◌, ◌∷◌, [], IfSome, MatchOption, length};
 ghost use Rattle.std.specs.List.{position_or_len};
 ghost use Rattle.mgf_reader.specs.Bytes.{fields_by, fields_of, trimmed, trimmed_front};
-ghost use Rattle.mgf_reader.specs.ByteClass.{is_of};
-ghost use Rattle.mgf_reader.specs.Form.{are_words};
+ghost use Rattle.mgf_reader.specs.inside.ByteClass.{is_of};
+ghost use Rattle.mgf_reader.specs.LineForm.{are_words};
 
 /// A class of bytes at which a line is cut.
 #[derive(Clone, Copy)]

@@ -1,12 +1,13 @@
 //! Cuts pieces into lines and has each judged. It keeps the bytes since the last line feed.
 ghost use Rattle.std.specs.Prelude.{◌≡◌, ◌+◌, ◌++◌, ◌<◌, ◌≤◌, ◌^◌, [], ◌∷◌, None, length, OnOk, MatchOption};
-ghost use Rattle.mgf_reader.specs.Judging.{Judges, line_at};
-ghost use Rattle.mgf_reader.specs.Form.{form_of};
-ghost use Rattle.mgf_reader.specs.Cutting.{TakesIn, Ends, HasNoLineFeed};
+ghost use Rattle.mgf_reader.specs.inside.Judging.{Judges, line_at, nothing_judged};
+ghost use Rattle.mgf_reader.specs.Stands.{IsFirstPart};
+ghost use Rattle.mgf_reader.specs.LineForm.{form_of};
+ghost use Rattle.mgf_reader.specs.inside.Cutting.{TakesIn, Ends, HasNoLineFeed};
 
 use crate::fault::FeedFault;
 use crate::judge::Judge;
-use crate::line::LONGEST_LINE;
+use crate::line::GREATEST_LINE;
 use crate::spectrum::Spectrum;
 use memchr::memchr;
 use std::alloc::Global;
@@ -23,7 +24,7 @@ pub struct Cutter {
 }
 
 impl Model for Cutter {
-    ghost use Rattle.mgf_reader.specs.Cutting.{Kept};
+    ghost use Rattle.mgf_reader.specs.inside.Cutting.{Kept};
 
     ghost Value = { Kept };
 
@@ -33,7 +34,7 @@ impl Model for Cutter {
 impl Cutter {
     /// Before the first byte.
     pub fn new(alloc: Global) -> Cutter
-        ensures { result ≡ record { unfinished = []; lines = record { waiting = []; judged = 0; defaults = record { title = []; precursor = None; charges = [] }; block = None } } }
+        ensures { result ≡ record { unfinished = []; lines = nothing_judged } }
     {
         Cutter {
             unfinished: Vec::new(alloc),
@@ -44,7 +45,9 @@ impl Cutter {
     /// Takes a piece in, up to the first line that has no place.
     pub fn take(&mut self, piece: &[u8]) -> Result<(), FeedFault>
         requires { self.old.lines.judged + length self.old.unfinished + length piece.now < 2 ^ 31 }
-        ensures size { OnOk result (self.new.lines.judged + length self.new.unfinished ≤ self.old.lines.judged + length self.old.unfinished + length piece.now) }
+        ensures size { OnOk result (self.new.lines.judged + length self.new.unfinished
+            ≤ self.old.lines.judged + length self.old.unfinished + length piece.now) }
+        ensures waits { IsFirstPart self.old.lines.waiting self.new.lines.waiting }
         ensures takes { TakesIn self.old piece.now result self.new }
     {
         let mut rest = piece;
@@ -60,6 +63,7 @@ impl Cutter {
         requires room { self.old.lines.judged + length self.old.unfinished + length part.now + 1 < 2 ^ 31 }
         requires part { HasNoLineFeed part.now }
         ensures size { OnOk result (self.new.lines.judged + length self.new.unfinished ≤ self.old.lines.judged + 1) }
+        ensures waits { IsFirstPart self.old.lines.waiting self.new.lines.waiting }
         ensures takes { TakesIn self.old (part.now ++ 10 ∷ []) result self.new }
     {
         if self.unfinished.is_empty() {
@@ -75,16 +79,18 @@ impl Cutter {
     fn keep(&mut self, part: &[u8]) -> Result<(), FeedFault>
         requires room { self.old.lines.judged + length self.old.unfinished + length part.now < 2 ^ 31 }
         requires part { HasNoLineFeed part.now }
-        ensures size { OnOk result ((self.new.lines.judged ≡ self.old.lines.judged) × (self.new.unfinished ≡ self.old.unfinished ++ part.now)) }
+        ensures size { OnOk result ((self.new.lines.judged ≡ self.old.lines.judged)
+            × (self.new.unfinished ≡ self.old.unfinished ++ part.now)) }
+        ensures waits { self.new.lines.waiting ≡ self.old.lines.waiting }
         ensures takes { TakesIn self.old part.now result self.new }
     {
-        if self.unfinished.len() + part.len() > LONGEST_LINE + MARK.len() {
+        if self.unfinished.len() + part.len() > GREATEST_LINE + MARK.len() {
             return Err(self.judge.too_long());
         }
         if self.unfinished.extend_from_slice(part).is_err() {
             return Err(FeedFault::OutOfMemory);
         }
-        if line_at(self.judge.judged(), &self.unfinished).len() > LONGEST_LINE {
+        if line_at(self.judge.judged(), &self.unfinished).len() > GREATEST_LINE {
             return Err(self.judge.too_long());
         }
         Ok(())
@@ -92,8 +98,10 @@ impl Cutter {
 
     /// The first of the spectra that wait.
     pub fn next(&mut self) -> Option<Spectrum>
-        ensures taken { MatchOption result ((self.old.lines.waiting ≡ []) × (self.new.lines.waiting ≡ [])) (λ spectrum. self.old.lines.waiting ≡ spectrum ∷ self.new.lines.waiting) }
-        ensures others { self.new ≡ record self.old { lines = record self.old.lines { waiting = self.new.lines.waiting } } }
+        ensures taken { MatchOption result ((self.old.lines.waiting ≡ []) × (self.new.lines.waiting ≡ []))
+            (λ spectrum. self.old.lines.waiting ≡ spectrum ∷ self.new.lines.waiting) }
+        ensures others { self.new
+            ≡ record self.old { lines = record self.old.lines { waiting = self.new.lines.waiting } } }
     {
         self.judge.next()
     }
@@ -101,7 +109,8 @@ impl Cutter {
     /// Takes what stands after the last line feed as a line, and looks for an open block.
     pub fn end(&mut self) -> Result<(), FeedFault>
         requires { self.old.lines.judged + length self.old.unfinished < 2 ^ 31 }
-        ensures { Ends self.old result self.new }
+        ensures waits { IsFirstPart self.old.lines.waiting self.new.lines.waiting }
+        ensures ends { Ends self.old result self.new }
     {
         let line = line_at(self.judge.judged(), &self.unfinished);
         if !line.is_empty() {

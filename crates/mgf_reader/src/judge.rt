@@ -1,11 +1,11 @@
 //! Judges lines one after another, and keeps what they leave.
 ghost use Rattle.std.specs.Prelude.{◌≡◌, ◌+◌, ◌<◌, ◌^◌, [], ◌∷◌, None, Some, OnOk, IfErr, IfSome, MatchOption};
-ghost use Rattle.mgf_reader.specs.Form.{form_of};
-ghost use Rattle.mgf_reader.specs.Line.{form_of_line};
+ghost use Rattle.mgf_reader.specs.LineForm.{form_of};
+ghost use Rattle.mgf_reader.specs.inside.Line.{form_of_line};
 ghost use Rattle.mgf_reader.specs.Grammar.{fault_outside};
-ghost use Rattle.mgf_reader.specs.Judging.{Judges, fault_behind, left_behind, left_outside, kind_in, end_of};
+ghost use Rattle.mgf_reader.specs.inside.Judging.{Judges, fault_behind, left_behind, left_outside, kind_in, end_of, nothing_judged};
 
-use crate::block::{Block, LineFault, Settings};
+use crate::block::{Block, LineFault, SpectrumSettings};
 use crate::fault::{FeedFault, MgfFault, MgfKind};
 use crate::line::{Line, line_of};
 use crate::spectrum::Spectrum;
@@ -18,28 +18,33 @@ use std::marker::Model;
 pub struct Judge {
     alloc: Global,
     judged: u32,
-    defaults: Settings,
+    defaults: SpectrumSettings,
     block: Option<Block>,
     waiting: VecDeque<Spectrum>,
 }
 
 impl Model for Judge {
-    ghost use Rattle.mgf_reader.specs.Judging.{Judged};
+    ghost use Rattle.mgf_reader.specs.inside.Judging.{Judged};
 
     ghost Value = { Judged };
 
-    ghost view = { λ judge. record { waiting = judge.waiting.items; judged = judge.judged; defaults = judge.defaults; block = judge.block } };
+    ghost view = { λ judge. record {
+      waiting = judge.waiting.items;
+      judged = judge.judged;
+      defaults = judge.defaults;
+      block = judge.block;
+    } };
 }
 
 impl Judge {
     /// Before the first line.
     pub fn new(alloc: Global) -> Judge
-        ensures { result ≡ record { waiting = []; judged = 0; defaults = record { title = []; precursor = None; charges = [] }; block = None } }
+        ensures { result ≡ nothing_judged }
     {
         Judge {
             alloc,
             judged: 0,
-            defaults: Settings::new(alloc),
+            defaults: SpectrumSettings::new(alloc),
             block: None,
             waiting: VecDeque::new(alloc),
         }
@@ -69,8 +74,10 @@ impl Judge {
     /// Takes a line in that was counted.
     fn take(&mut self, line: Line<'_>) -> Result<(), LineFault>
         ensures counted { self.new.judged ≡ self.old.judged }
-        ensures right { OnOk result ((fault_behind self.old (form_of_line line.entry) ≡ None) × (self.new ≡ left_behind self.old (form_of_line line.entry))) }
-        ensures refused { IfErr result (λ fault. IfSome (kind_in fault) (λ kind. fault_behind self.old (form_of_line line.entry) ≡ Some kind)) }
+        ensures right { OnOk result ((fault_behind self.old (form_of_line line.entry) ≡ None)
+            × (self.new ≡ left_behind self.old (form_of_line line.entry))) }
+        ensures refused { IfErr result (λ fault.
+            IfSome (kind_in fault) (λ kind. fault_behind self.old (form_of_line line.entry) ≡ Some kind)) }
         ensures waits { IfErr result (λ _. self.new.waiting ≡ self.old.waiting) }
     {
         let Some(mut block) = self.block.take() else {
@@ -89,8 +96,10 @@ impl Judge {
     fn take_outside(&mut self, line: Line<'_>) -> Result<(), LineFault>
         requires { self.old.block ≡ None }
         ensures counted { self.new.judged ≡ self.old.judged }
-        ensures right { OnOk result ((fault_outside (form_of_line line.entry) ≡ None) × (self.new ≡ left_outside self.old (form_of_line line.entry))) }
-        ensures refused { IfErr result (λ fault. IfSome (kind_in fault) (λ kind. fault_outside (form_of_line line.entry) ≡ Some kind)) }
+        ensures right { OnOk result ((fault_outside (form_of_line line.entry) ≡ None)
+            × (self.new ≡ left_outside self.old (form_of_line line.entry))) }
+        ensures refused { IfErr result (λ fault.
+            IfSome (kind_in fault) (λ kind. fault_outside (form_of_line line.entry) ≡ Some kind)) }
         ensures waits { IfErr result (λ _. self.new.waiting ≡ self.old.waiting) }
     {
         match line {
@@ -109,7 +118,8 @@ impl Judge {
 
     /// The first of the spectra that wait.
     pub fn next(&mut self) -> Option<Spectrum>
-        ensures taken { MatchOption result ((self.old.waiting ≡ []) × (self.new.waiting ≡ [])) (λ spectrum. self.old.waiting ≡ spectrum ∷ self.new.waiting) }
+        ensures taken { MatchOption result ((self.old.waiting ≡ []) × (self.new.waiting ≡ []))
+            (λ spectrum. self.old.waiting ≡ spectrum ∷ self.new.waiting) }
         ensures others { self.new ≡ record self.old { waiting = self.new.waiting } }
     {
         self.waiting.pop_front()

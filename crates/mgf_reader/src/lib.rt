@@ -18,5 +18,5 @@ pub use fault::{FeedFault, MgfFault, MgfKind};
 pub use laws::{
     a_kind_has_one_number_and_one_word, a_longer_text_keeps_its_spectra, a_text_is_read_one_way,
 };
-pub use reader::{MOST_FED, Reader};
+pub use reader::{GREATEST_FED, Reader};
 pub use spectrum::{Charge, Charges, Peak, Peaks, Sign, Spectrum, Title};

@@ -1,8 +1,8 @@
 //! The form of a line.
 ghost use Rattle.std.specs.Prelude.{◌≡◌, IsTrue, false, slice_index};
 ghost use Rattle.mgf_reader.specs.Bytes.{is_blank, is_comment_mark, is_name_byte, is_peak_start};
-ghost use Rattle.mgf_reader.specs.Form.{form_of, form_within};
-ghost use Rattle.mgf_reader.specs.Line.{form_of_line};
+ghost use Rattle.mgf_reader.specs.LineForm.{form_of, form_within};
+ghost use Rattle.mgf_reader.specs.inside.Line.{form_of_line};
 
 use crate::bytes::{ByteClass, are_words, first_place, trim};
 
@@ -11,33 +11,39 @@ use crate::bytes::{ByteClass, are_words, first_place, trim};
 pub enum Line<'a> {
     /// More bytes than a line may have.
     TooLong,
+    /// Nothing is left of it.
     Blank,
+    /// A line that begins with the mark of a comment.
     Comment,
+    /// `BEGIN IONS`
     Begin,
+    /// `END IONS`
     End,
     /// The key and the value, without the blanks around them.
     Parameter(&'a [u8], &'a [u8]),
     /// The bytes from which the fields of a peak are taken.
     Peak(&'a [u8]),
+    /// Words that set nothing.
     Remark,
+    /// None of these.
     NoForm,
 }
 
 /// How many bytes a line may have before its line feed.
-pub const LONGEST_LINE: usize = 65_536;
+pub const GREATEST_LINE: usize = 65_536;
 
 /// The form of a line, given without its line feed.
 pub fn line_of(bytes: &[u8]) -> Line<'_>
     ensures { form_of_line result ≡ form_of bytes.now }
 {
-    if bytes.len() > LONGEST_LINE {
+    if bytes.len() > GREATEST_LINE {
         return Line::TooLong;
     }
     form_by_first(trim(ByteClass::Edge, bytes))
 }
 
-/// The form of a line without what is dropped at its ends. Its first byte tells it, but for the lines that begin as a name does.
-/// Most lines are peaks, so these come first.
+/// The form of a line without what is dropped at its ends. Its first byte tells it, but for the lines that begin as a name
+/// does. Most lines are peaks, so these come first.
 fn form_by_first(line: &[u8]) -> Line<'_>
     requires { is_blank (slice_index line.now 0) ≡ false }
     ensures { form_of_line result ≡ form_within line.now }
@@ -90,6 +96,7 @@ fn is_name_byte(byte: u8) -> bool
     byte.is_ascii_uppercase() || byte.is_ascii_lowercase() || byte == b'_'
 }
 
+/// `#`, `;`, `!` or `/`.
 fn is_comment_mark(byte: u8) -> bool
     ensures { result ≡ is_comment_mark byte }
 {
@@ -101,6 +108,7 @@ mod tests {
     use super::*;
     use std::test::Fail;
 
+    /// The word for the form of a line.
     fn word_of(line: Line<'_>) -> &'static str {
         match line {
             Line::TooLong => "too long",

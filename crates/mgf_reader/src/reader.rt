@@ -1,10 +1,11 @@
-//! A reader of a text that comes in pieces of any size. It keeps one unfinished line, one open block, and the spectra that wait.
+//! A reader of a text that comes in pieces of any size. It keeps one unfinished line, one open block, and the spectra that
+//! wait.
 ghost use Rattle.std.specs.Prelude.{◌≡◌, ◌≢◌, ◌≤◌, ◌+◌, ◌++◌, [], ◌∷◌, List, ℕ, false, true, None, Some, Ok, Err, length, IfOk, OnErr, OnOk, MatchOption};
 ghost use Rattle.std.specs.Option.{option_to_list};
 ghost use Rattle.mgf_reader.specs.Spectrum.{SpectrumValue};
 ghost use Rattle.mgf_reader.specs.declared.fault.FeedFault.{FeedFault};
 ghost use Rattle.mgf_reader.specs.Grammar.{Reads, SoFar};
-ghost use Rattle.mgf_reader.specs.Stands.{Answers, Broken, Stands, answer_of};
+ghost use Rattle.mgf_reader.specs.Stands.{Answers, Broken, IsFirstPart, Stands, answer_of, greatest_fed};
 
 use crate::cutter::Cutter;
 use crate::fault::FeedFault;
@@ -12,8 +13,8 @@ use crate::spectrum::Spectrum;
 use std::alloc::{AllocError, Global};
 use std::marker::Model;
 
-/// How many bytes a reader may be fed in all.
-pub const MOST_FED: usize = 67_108_865;
+/// How many bytes a reader may be fed in all: one more than a text may have, so that one too long is seen to be so.
+pub const GREATEST_FED: usize = 67_108_865;
 
 /// A reader of a text that comes in pieces.
 #[derive(Drop)]
@@ -26,14 +27,25 @@ pub struct Reader {
 
 impl Model for Reader {
     ghost use Rattle.std.specs.Prelude.{◌≡◌, ◌+◌, ◌≤◌, None, false, length};
-    ghost use Rattle.mgf_reader.specs.Stands.{ReaderValue};
+    ghost use Rattle.mgf_reader.specs.Stands.{ReaderValue, greatest_fed};
 
     ghost Value = { ReaderValue };
 
-    ghost view = { λ reader. record { fed = reader.fed; ended = reader.ended; waiting = reader.cutter.lines.waiting; failed = reader.failed; unfinished = reader.cutter.unfinished; judged = reader.cutter.lines.judged; defaults = reader.cutter.lines.defaults; block = reader.cutter.lines.block } };
+    ghost view = { λ reader. record {
+      fed = reader.fed;
+      ended = reader.ended;
+      waiting = reader.cutter.lines.waiting;
+      failed = reader.failed;
+      unfinished = reader.cutter.unfinished;
+      judged = reader.cutter.lines.judged;
+      defaults = reader.cutter.lines.defaults;
+      block = reader.cutter.lines.block;
+    } };
 
     // Each line that was judged took a byte, and what is kept is not judged.
-    ghost invariant = { λ reader. (reader.fed ≤ 67108865) × (reader.failed ≡ None → reader.ended ≡ false → reader.cutter.lines.judged + length reader.cutter.unfinished ≤ reader.fed) };
+    ghost invariant = { λ reader. (reader.fed ≤ greatest_fed)
+        × (reader.failed ≡ None → reader.ended ≡ false
+        → reader.cutter.lines.judged + length reader.cutter.unfinished ≤ reader.fed) };
 }
 
 impl Reader {
@@ -50,11 +62,11 @@ impl Reader {
         })
     }
 
-    /// Takes the next piece of the text in. Answers the first line of the text so far that has no place. From then on, and after want
-    /// of memory, every later call answers the same.
+    /// Takes the next piece of the text in. Answers the first line of the text so far that has no place. From then on, and
+    /// after want of memory, every later call answers the same.
     pub fn feed(&mut self, piece: &[u8]) -> Result<(), FeedFault>
         requires open { self.old.ended ≡ false }
-        requires room { self.old.fed + length piece.now ≤ MOST_FED }
+        requires room { self.old.fed + length piece.now ≤ greatest_fed }
 
         ensures fed { self.new.fed ≡ self.old.fed + length piece.now }
         ensures open { self.new.ended ≡ false }
@@ -64,6 +76,9 @@ impl Reader {
             → Stands self.old text out → Stands self.new (text ++ piece.now) out }
         ensures answers { result ≢ Err FeedFault.OutOfMemory → (text : List ℕ) (out : List SpectrumValue)
             → Stands self.old text out → Answers (SoFar (text ++ piece.now)) (out ++ self.new.waiting) result }
+
+        // Whatever is answered, the spectra that waited wait on, before those that are new.
+        ensures waits { IsFirstPart self.old.waiting self.new.waiting }
 
         // Want of memory loses no spectrum that was right.
         ensures broken { result ≡ Err FeedFault.OutOfMemory → (text : List ℕ) (out : List SpectrumValue)
@@ -85,7 +100,8 @@ impl Reader {
 
     /// Hands the first of the spectra out that wait; none where none waits.
     pub fn next(&mut self) -> Option<Spectrum>
-        ensures taken { MatchOption result (self.old.waiting ≡ []) (λ spectrum. self.old.waiting ≡ spectrum ∷ self.new.waiting) }
+        ensures taken { MatchOption result (self.old.waiting ≡ [])
+            (λ spectrum. self.old.waiting ≡ spectrum ∷ self.new.waiting) }
         ensures others { self.new ≡ record self.old { waiting = self.new.waiting } }
         ensures none { result ≡ None → self.new ≡ self.old }
         ensures stands { (text : List ℕ) (out : List SpectrumValue)
@@ -94,8 +110,8 @@ impl Reader {
         self.cutter.next()
     }
 
-    /// Ends the text: what stands after the last line feed is a line. Answers the first line that has no place, or the block that
-    /// is still open.
+    /// Ends the text: what stands after the last line feed is a line. Answers the first line that has no place, or the block
+    /// that is still open.
     pub fn end(&mut self) -> Result<(), FeedFault>
         requires { self.old.ended ≡ false }
 
@@ -105,10 +121,12 @@ impl Reader {
 
         ensures answers { result ≢ Err FeedFault.OutOfMemory → (text : List ℕ) (out : List SpectrumValue)
             → Stands self.old text out → Answers (Reads text) (out ++ self.new.waiting) result }
+        ensures waits { IsFirstPart self.old.waiting self.new.waiting }
         ensures broken { result ≡ Err FeedFault.OutOfMemory → (text : List ℕ) (out : List SpectrumValue)
             → Stands self.old text out → Broken (Reads text) (out ++ self.new.waiting) }
 
-        ensures failed { (fault : FeedFault) → self.old.failed ≡ Some fault → (result ≡ Err fault) × (self.new ≡ self.old) }
+        ensures failed { (fault : FeedFault) → self.old.failed ≡ Some fault
+            → (result ≡ Err fault) × (self.new ≡ self.old) }
         ensures keeps_fault { (fault : FeedFault) → result ≡ Err fault → self.new.failed ≡ Some fault }
     {
         if let Some(fault) = self.failed {

@@ -4,11 +4,11 @@ ghost use Rattle.mgf_reader.specs.Bytes.{fields_of};
 ghost use Rattle.mgf_reader.specs.Parameter.{charge_from_end, charge_of, charges_of, parameter_fault, precursor_units, sign_of, signed};
 ghost use Rattle.mgf_reader.specs.PeakLine.{intensity_of, peak_of};
 ghost use Rattle.mgf_reader.specs.declared.fault.MgfKind.TheVariants.{BadCharge};
-ghost use Rattle.mgf_reader.specs.Line.{Says, kind_of};
+ghost use Rattle.mgf_reader.specs.inside.Line.{Says, kind_of};
 
 use crate::bytes::{ByteClass, first_field};
 use crate::spectrum::{Charge, Peak, Sign};
-use fixed_mass::read_units;
+use fixed_mass::{read_digits, read_units};
 use std::alloc::Global;
 
 /// The scale of m/z: units of 10^-7.
@@ -21,13 +21,16 @@ const INTENSITY_SCALE: u8 = 6;
 const DEFAULT_INTENSITY: u64 = 1_000_000;
 
 /// How many digits a charge may have.
-const MOST_DIGITS: usize = 3;
+const GREATEST_CHARGE_DIGITS: usize = 3;
 
 /// What a parameter line sets.
 #[derive(Drop)]
 pub enum Setting<'a> {
+    /// The title.
     Title(&'a [u8]),
+    /// The m/z of the precursor in units of 10^-7.
     Precursor(u64),
+    /// The charges, none of them of value 0.
     Charges(Vec<Charge>),
     /// A key that does not count, or an empty value of one that does.
     Nothing,
@@ -36,8 +39,11 @@ pub enum Setting<'a> {
 /// Why a parameter line is refused.
 #[derive(Clone, Copy, Debug, PartialEq, Eq)]
 pub enum SettingFault {
+    /// The numeral of `PEPMASS` is refused.
     BadPrecursor,
+    /// An item of `CHARGE` is refused.
     BadCharge,
+    /// There was no memory.
     OutOfMemory,
 }
 
@@ -47,8 +53,10 @@ pub fn read_setting<'a>(
     key: &[u8],
     value: &'a [u8],
 ) -> Result<Setting<'a>, SettingFault>
-    ensures right { IfOk result (λ setting. (parameter_fault key.now value.now ≡ None) × Says key.now value.now setting) }
-    ensures refused { IfErr result (λ fault. IfSome (kind_of fault) (λ kind. parameter_fault key.now value.now ≡ Some kind)) }
+    ensures right { IfOk result (λ setting.
+        (parameter_fault key.now value.now ≡ None) × Says key.now value.now setting) }
+    ensures refused { IfErr result (λ fault.
+        IfSome (kind_of fault) (λ kind. parameter_fault key.now value.now ≡ Some kind)) }
 {
     if key.eq_ignore_ascii_case(b"TITLE") {
         return Ok(Setting::Title(value));
@@ -77,7 +85,8 @@ fn read_precursor(value: &[u8]) -> Option<u64>
 /// The charges of a value, in its order, but for those of value 0.
 fn read_charges(alloc: Global, value: &[u8]) -> Result<Vec<Charge>, SettingFault>
     ensures right { IfOk result (λ charges. charges_of value.now ≡ Some charges.items) }
-    ensures refused { IfErr result (λ fault. IfSome (kind_of fault) (λ kind. (kind ≡ BadCharge) × (charges_of value.now ≡ None))) }
+    ensures refused { IfErr result (λ fault.
+        IfSome (kind_of fault) (λ kind. (kind ≡ BadCharge) × (charges_of value.now ≡ None))) }
 {
     let mut charges = Vec::new(alloc);
     let mut left = value;
@@ -122,6 +131,7 @@ fn read_from_end(item: &[u8]) -> Option<Charge>
     }
 }
 
+/// The sign that a byte is, where it is one.
 fn sign_of(byte: u8) -> Option<Sign>
     ensures { result ≡ sign_of byte }
 {
@@ -136,17 +146,14 @@ fn sign_of(byte: u8) -> Option<Sign>
 fn signed(digits: &[u8], sign: Sign) -> Option<Charge>
     ensures { result ≡ signed digits.now sign }
 {
-    if digits.is_empty() || digits.len() > MOST_DIGITS {
+    if digits.len() > GREATEST_CHARGE_DIGITS {
         return None;
     }
-    let mut value = 0;
-    for digit in digits {
-        if !digit.is_ascii_digit() {
-            return None;
-        }
-        value = value * 10 + u16::from(*digit - b'0');
-    }
-    Some(Charge { value, sign })
+    let value = read_digits(digits)?;
+    Some(Charge {
+        value: value as u16,
+        sign,
+    })
 }
 
 /// The peak of a peak line of this number; none where a numeral of it is refused.
@@ -203,6 +210,7 @@ mod tests {
         }
     }
 
+    /// The word for a setting or for a refusal.
     fn word_of(setting: Result<Setting<'_>, SettingFault>) -> &'static str {
         match setting {
             Ok(Setting::Title(_)) => "title",
@@ -251,10 +259,12 @@ mod tests {
         assert_eq!(rt; units, 1_810_707_000);
     }
 
+    /// A charge of a value and a sign.
     fn charge(value: u16, sign: Sign) -> Charge {
         Charge { value, sign }
     }
 
+    /// Reads a value of `CHARGE` and compares its charges.
     fn assert_charges(rt: &(impl Abort + AllocGlobal), value: &str, want: &[Charge]) {
         let Ok(Setting::Charges(charges)) = read_setting(rt.alloc(), b"CHARGE", value.as_bytes())
         else {

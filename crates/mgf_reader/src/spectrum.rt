@@ -6,7 +6,9 @@ use std::marker::Model;
 /// A sign of a charge.
 #[derive(Clone, Copy, Debug, PartialEq, Eq)]
 pub enum Sign {
+    /// `+`
     Plus,
+    /// `-`
     Minus,
     /// No sign was written.
     Unsigned,
@@ -28,14 +30,15 @@ pub struct Peak {
 }
 
 impl Model for Peak {
-    ghost use Rattle.std.specs.Prelude.{◌≤◌, ◌^◌};
+    ghost use Rattle.std.specs.Prelude.{◌≤◌};
+    ghost use Rattle.fixed_mass.specs.Units.{greatest_units};
     ghost use Rattle.mgf_reader.specs.Spectrum.{PeakValue};
 
     ghost Value = { PeakValue };
 
     ghost view = { λ peak. record { mz = peak.mz; intensity = peak.intensity; line = peak.line } };
 
-    ghost invariant = { λ peak. (peak.mz ≤ 10 ^ 18) × (peak.intensity ≤ 10 ^ 18) };
+    ghost invariant = { λ peak. (peak.mz ≤ greatest_units) × (peak.intensity ≤ greatest_units) };
 
     ghost inverse = { λ peak. record { mz = peak.mz; intensity = peak.intensity; line = peak.line } };
 }
@@ -132,8 +135,8 @@ impl Peaks {
     }
 }
 
-/// One spectrum of a text: the line of its `BEGIN IONS`, its title, the m/z of its precursor in units of 10^-7 and at most
-/// 10^18, where the text gives one, its charges and its peaks.
+/// One spectrum of a text: the line of its `BEGIN IONS`, its title, the m/z of its precursor in units of 10^-7 and at
+/// most 10^18, where the text gives one, its charges and its peaks.
 #[derive(Debug, Drop)]
 pub struct Spectrum {
     pub line: u32,
@@ -144,13 +147,20 @@ pub struct Spectrum {
 }
 
 impl Model for Spectrum {
-    ghost use Rattle.std.specs.Prelude.{◌≤◌, ◌^◌};
+    ghost use Rattle.std.specs.Prelude.{◌≤◌};
+    ghost use Rattle.fixed_mass.specs.Units.{greatest_units};
     ghost use Rattle.std.specs.Option.{ForSome};
     ghost use Rattle.mgf_reader.specs.Spectrum.{SpectrumValue};
 
     ghost Value = { SpectrumValue };
 
-    ghost view = { λ spectrum. record { line = spectrum.line; title = spectrum.title; precursor = spectrum.precursor; charges = spectrum.charges; peaks = spectrum.peaks } };
+    ghost view = { λ spectrum. record {
+      line = spectrum.line;
+      title = spectrum.title;
+      precursor = spectrum.precursor;
+      charges = spectrum.charges;
+      peaks = spectrum.peaks;
+    } };
 
-    ghost invariant = { λ spectrum. ForSome spectrum.precursor (λ mz. mz ≤ 10 ^ 18) };
+    ghost invariant = { λ spectrum. ForSome spectrum.precursor (λ mz. mz ≤ greatest_units) };
 }

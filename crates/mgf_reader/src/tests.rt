@@ -1,7 +1,8 @@
 //! Texts and how they are read, in whatever pieces they come.
 ghost use Rattle.std.specs.Prelude.{◌≡◌, ◌+◌, ◌≤◌, false, length};
+ghost use Rattle.mgf_reader.specs.Stands.{greatest_fed};
 
-use crate::{FeedFault, MOST_FED, MgfFault, MgfKind, Reader, Sign, Spectrum};
+use crate::{FeedFault, GREATEST_FED, MgfFault, MgfKind, Reader, Sign, Spectrum};
 use std::alloc::{AllocError, Global};
 use std::fmt::Write;
 use std::process::Abort;
@@ -33,7 +34,7 @@ fn tell(out: &mut String, spectrum: &Spectrum) -> Result<(), AllocError> {
 /// Feeds a piece and tells the spectra that wait.
 fn feed_piece(reader: &mut Reader, piece: &[u8], out: &mut String) -> Result<(), Fail>
     requires open { reader.old.ended ≡ false }
-    requires room { reader.old.fed + length piece.now ≤ MOST_FED }
+    requires room { reader.old.fed + length piece.now ≤ greatest_fed }
     ensures open { reader.new.ended ≡ false }
     ensures fed { reader.new.fed ≡ reader.old.fed + length piece.now }
 {
@@ -49,7 +50,7 @@ fn feed_piece(reader: &mut Reader, piece: &[u8], out: &mut String) -> Result<(),
 
 /// Reads a text in pieces, the first of one size and the others of another. Tells the spectra, and how the text ends.
 fn read_by(alloc: Global, text: &[u8], first: usize, size: usize) -> Result<String, Fail> {
-    if text.len() > MOST_FED || first > text.len() || size == 0 {
+    if text.len() > GREATEST_FED || first > text.len() || size == 0 {
         return Err(Fail::new("no such pieces"));
     }
     let mut out = String::new(alloc);
@@ -254,7 +255,7 @@ fn bounds_a_line(rt: HostRuntime) -> Result<(), Fail> {
 fn refuses_a_long_line_before_its_end(rt: HostRuntime) -> Result<(), Fail> {
     let text = comment_of(rt.alloc(), b"\n", 65_536, b"")?;
     let mut reader = Reader::new(rt.alloc())?;
-    assert!(rt; text.len() < MOST_FED - 1);
+    assert!(rt; text.len() < GREATEST_FED - 1);
     assert_eq!(rt; reader.feed(&text), Ok(()));
     let fault = FeedFault::Mgf(MgfFault {
         line: 2,

@@ -1,7 +1,7 @@
 use Rattle.std.proofs.Common.{◌∙◌, sym}
 use Rattle.std.proofs.lemmas.List.{take_rest}
-use Rattle.mgf_reader.specs.ByteClass.{is_of}
-use Rattle.mgf_reader.proofs.Fields.{no_field, first_field_is, rest_is_shorter, is_empty_true, is_empty_false}
+use Rattle.mgf_reader.specs.inside.ByteClass.{is_of}
+use Rattle.mgf_reader.proofs.FieldsBy.{no_field, first_field_is, rest_is_shorter, is_empty_true, is_empty_false}
 use Rattle.mgf_reader.proofs.bytes.first_field.Goals as goal
 
 pub returns-then-is_empty-clause-fields : goal.returns-then-is_empty-clause-fields

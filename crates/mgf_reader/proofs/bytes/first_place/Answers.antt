@@ -2,8 +2,8 @@ use Rattle.std.proofs.Common.{◌≡◌, ◌∙◌, ap, length, rules, tests}
 use Rattle.std.specs.Prelude.{position, unwrap_or}
 use Rattle.std.proofs.lemmas.Iterator.{YieldsList-from_slice}
 use Rattle.std.proofs.lemmas.Iterator.Search.{position_from_yields_List}
-use Rattle.mgf_reader.specs.ByteClass.{is_of}
-use Rattle.mgf_reader.proofs.Fields.{place_is}
+use Rattle.mgf_reader.specs.inside.ByteClass.{is_of}
+use Rattle.mgf_reader.proofs.FieldsBy.{place_is}
 use Rattle.mgf_reader.proofs.bytes.first_place.Goals as goal
 
 pub returns-clause-place : goal.returns-clause-place

@@ -1,6 +1,6 @@
 use Rattle.std.proofs.Common.{◌≡◌, length, reverse}
 use Rattle.mgf_reader.specs.Bytes.{trimmed, trimmed_front}
-use Rattle.mgf_reader.specs.ByteClass.{is_of}
+use Rattle.mgf_reader.specs.inside.ByteClass.{is_of}
 use Rattle.mgf_reader.proofs.bytes.trim.Given as goal
 
 abbrev pub invariant-loop-left : goal.invariant-loop-left

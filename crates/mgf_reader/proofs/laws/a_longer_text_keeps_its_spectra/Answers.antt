@@ -1,7 +1,7 @@
 use Rattle.std.specs.Prelude.{◌++◌, List}
 use Rattle.std.proofs.Common.{◌∙◌, ap, append_assoc}
 use Rattle.mgf_reader.specs.Spectrum.{SpectrumValue}
-use Rattle.mgf_reader.proofs.Extending.{fault-goes, fault-ends, reading-breaks, reading-ends}
+use Rattle.mgf_reader.proofs.SoFar.{fault-goes, fault-ends, reading-breaks, reading-ends}
 use Rattle.mgf_reader.proofs.laws.a_longer_text_keeps_its_spectra.Goals as goal
 
 pub returns-clause-so_far : goal.returns-clause-so_far

@@ -1,6 +1,6 @@
 use Rattle.std.specs.Prelude.{true, false}
 use Rattle.mgf_reader.specs.Text.{lines_of, judged_lines}
-use Rattle.mgf_reader.proofs.OneReading.{lines_are_read_one_way}
+use Rattle.mgf_reader.proofs.ReadsLines.{lines_are_read_one_way}
 use Rattle.mgf_reader.proofs.laws.a_text_is_read_one_way.Goals as goal
 
 pub returns-clause-whole : goal.returns-clause-whole

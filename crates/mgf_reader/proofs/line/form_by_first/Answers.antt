@@ -1,5 +1,5 @@
 use Rattle.std.proofs.Common.{◌∙◌, sym, ap, length, arith}
-use Rattle.mgf_reader.proofs.LineForm.{blank_by_length, peak_by_first, comment_by_first, no_form_by_first}
+use Rattle.mgf_reader.proofs.FormWithin.{blank_by_length, peak_by_first, comment_by_first, no_form_by_first}
 use Rattle.mgf_reader.proofs.line.form_by_first.Goals as goal
 
 pub returns-in_default : goal.returns-in_default

@@ -1,6 +1,6 @@
 use Rattle.std.proofs.Common.{◌∙◌, sym, arith}
 use Rattle.std.proofs.lemmas.List.{take_rest}
-use Rattle.mgf_reader.proofs.LineForm.{begin_by_words, end_by_words, remark_by_equals, parameter_by_equals}
+use Rattle.mgf_reader.proofs.FormWithin.{begin_by_words, end_by_words, remark_by_equals, parameter_by_equals}
 use Rattle.mgf_reader.proofs.line.form_of_named.Goals as goal
 
 pub returns-then-are_words : goal.returns-then-are_words

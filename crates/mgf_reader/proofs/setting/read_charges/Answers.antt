@@ -2,8 +2,8 @@ use Rattle.std.proofs.Common.{◌≡◌, ◌∙◌, sym, ap, arith, List, ◌++�
 use Rattle.std.specs.Option.{option_map}
 use Rattle.std.specs.Result.{is_ok}
 use Rattle.mgf_reader.specs.declared.spectrum.Charge.{Charge}
-use Rattle.mgf_reader.proofs.ChargeList.{charges_of-none, charges_of-and, charges_of-bad, charges_of-zero, charges_of-counts, above_zero}
-use Rattle.mgf_reader.proofs.Fields.{same_words}
+use Rattle.mgf_reader.proofs.ChargesOf.{charges_of-none, charges_of-and, charges_of-bad, charges_of-zero, charges_of-counts, above_zero}
+use Rattle.mgf_reader.proofs.FieldsBy.{same_words}
 use Rattle.mgf_reader.proofs.setting.read_charges.Goals as goal
 use Rattle.mgf_reader.proofs.setting.read_charges.Goals.{else-charge-gt0-via-then-charge-gt0+else-is_err, else-charge-gt0-via-else-charge-gt0}
 

@@ -3,14 +3,14 @@ use Rattle.std.proofs.lemmas.Grind.{common_steps}
 use Rattle.std.proofs.lemmas.List.{nil_from_length}
 use Rattle.std.proofs.lemmas.Result.{err_from_is_err_and}
 use Rattle.mgf_reader.specs.declared.cutter.Cutter.TheInside.{Inside}
-use Rattle.mgf_reader.specs.Judging.{line_at, end_of}
-use Rattle.mgf_reader.specs.Cutting.{Kept, Ends}
-use Rattle.mgf_reader.proofs.Standing.{ends-line, ends-empty, ends-fault}
+use Rattle.mgf_reader.specs.inside.Judging.{line_at, end_of}
+use Rattle.mgf_reader.specs.inside.Cutting.{Kept, Ends}
+use Rattle.mgf_reader.proofs.TakesIn.{ends-line, ends-empty, ends-fault}
 use Rattle.mgf_reader.proofs.cutter.Cutter.end.Goals.{then-not-is_empty+in_ok-judge, else-not-is_empty}
 use Rattle.mgf_reader.proofs.cutter.Cutter.end.Goals as goal
 
-pub returns-in_err-judge : goal.returns-in_err-judge
-returns-in_err-judge c =
+pub returns-in_err-judge-clause-ends : goal.returns-in_err-judge-clause-ends
+returns-in_err-judge-clause-ends c =
     let held : List ℕ = c.self.inside.unfinished.items in
     let kept : Kept = record { unfinished = held; lines = c.self.inside.judge } in
     let line : c.line_at-line.result.now ≡ line_at kept.lines.judged held = c.line_at-line.ensures ∙ ap (line_at c.judged.result) c.deref.ensures.value ∙ ap (λ n. line_at n held) c.judged.ensures in
@@ -18,8 +18,8 @@ returns-in_err-judge c =
     let p = err_from_is_err_and c.from_residual.result c.from_residual.ensures.1 in
     rw (p.1, p.2) (subst (λ k. Ends k (Err c.in_err-judge.field-0.0) (record { unfinished = held; lines = c.judge.new.self })) c.self.view_is (ends-fault kept held c.judge.new.self c.in_err-judge.field-0.0 c.line_at-line.result.now line some c.in_err-judge.ensures.judges))
 
-pub returns : goal.returns
-returns c =
+pub returns-clause-ends : goal.returns-clause-ends
+returns-clause-ends c =
     let held : List ℕ = c.self.inside.unfinished.items in
     let kept : Kept = record { unfinished = held; lines = c.self.inside.judge } in
     let line : c.line_at-line.result.now ≡ line_at kept.lines.judged held = c.line_at-line.ensures ∙ ap (line_at c.judged.result) c.deref.ensures.value ∙ ap (λ n. line_at n held) c.judged.ensures in

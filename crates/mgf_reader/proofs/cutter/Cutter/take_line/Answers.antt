@@ -2,10 +2,10 @@ use Rattle.std.proofs.Common.{◌≡◌, ◌++◌, ℕ, List, [], ◌∷◌, len
 use Rattle.std.proofs.lemmas.Grind.{common_steps}
 use Rattle.std.proofs.lemmas.List.{nil_from_length}
 use Rattle.std.proofs.lemmas.Result.{err_from_is_err_and}
-use Rattle.mgf_reader.specs.Form.{form_of}
-use Rattle.mgf_reader.specs.Judging.{line_at, Judges}
-use Rattle.mgf_reader.specs.Cutting.{Kept, TakesIn}
-use Rattle.mgf_reader.proofs.Standing.{takes-line, takes-then, takes-stops}
+use Rattle.mgf_reader.specs.LineForm.{form_of}
+use Rattle.mgf_reader.specs.inside.Judging.{line_at, Judges}
+use Rattle.mgf_reader.specs.inside.Cutting.{Kept, TakesIn}
+use Rattle.mgf_reader.proofs.TakesIn.{takes-line, takes-then, takes-stops}
 use Rattle.mgf_reader.proofs.cutter.Cutter.take_line.Goals as goal
 
 pub returns-then-is_empty-clause-takes : goal.returns-then-is_empty-clause-takes

@@ -1,7 +1,7 @@
 use Rattle.std.proofs.Common.{◌++◌, Err, sym, subst}
 use Rattle.mgf_reader.specs.Stands.{Stands}
-use Rattle.mgf_reader.proofs.Standing.{stands-longer}
-use Rattle.mgf_reader.proofs.Answering.{fed-stands, fed-answers, fed-broken, stands-answers, restated, reader_of, stood}
+use Rattle.mgf_reader.proofs.TakesIn.{stands-longer}
+use Rattle.mgf_reader.proofs.ReaderAnswers.{fed-stands, fed-answers, fed-broken, stands-answers, restated, reader_of, stood}
 use Rattle.mgf_reader.proofs.reader.Reader.feed.Goals as goal
 
 pub returns-in-Some-clause-stands : goal.returns-in-Some-clause-stands

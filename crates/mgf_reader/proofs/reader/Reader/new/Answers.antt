@@ -1,4 +1,4 @@
-use Rattle.mgf_reader.proofs.Standing.{stands-new}
+use Rattle.mgf_reader.proofs.TakesIn.{stands-new}
 use Rattle.mgf_reader.proofs.reader.Reader.new.Goals as goal
 
 pub returns-clause-stands : goal.returns-clause-stands

@@ -2,8 +2,8 @@ use Rattle.std.proofs.Common.{◌≡◌, ◌∷◌, ◌++◌, [], List, Option, 
 use Rattle.std.specs.Option.{option_to_list}
 use Rattle.mgf_reader.specs.Spectrum.{SpectrumValue}
 use Rattle.mgf_reader.specs.Stands.{Stands}
-use Rattle.mgf_reader.proofs.Answering.{reader_of}
-use Rattle.mgf_reader.proofs.Standing.{stands-taken}
+use Rattle.mgf_reader.proofs.ReaderAnswers.{reader_of}
+use Rattle.mgf_reader.proofs.TakesIn.{stands-taken}
 use Rattle.mgf_reader.proofs.reader.Reader.next.Goals as goal
 
 taken-list : (result : Option SpectrumValue) (old new : List SpectrumValue) → MatchOption result ((old ≡ []) × (new ≡ [])) (λ spectrum. old ≡ spectrum ∷ new) → old ≡ option_to_list result ++ new

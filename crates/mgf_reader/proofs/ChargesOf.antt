@@ -1,4 +1,4 @@
--- The charges of a value, taken one after another.
+-- For `charges_of`: the charges of a value, taken one after another.
 use Rattle.std.proofs.Common.{◌≡◌, ◌<◌, ◌∙◌, ℕ, true, false, List, [], ◌∷◌, ◌++◌, Option, Some, None, cond, eqb, refl, sym, ap, arith, codes, append_assoc}
 use Rattle.std.proofs.lemmas.Bool.{ne_eqb}
 use Rattle.std.specs.Option.{option_map, option_and_then}

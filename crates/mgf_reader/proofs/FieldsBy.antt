@@ -1,4 +1,4 @@
--- The fields of a list of bytes, taken one after another from its front.
+-- For `fields_by`: the fields of a list of bytes, taken one after another from its front.
 use Rattle.std.proofs.Common.{◌≡◌, ◌<◌, ◌≤◌, ◌+◌, ◌∙◌, inl, inr, ℕ, suc, Bool, true, false, List, [], ◌∷◌, length, take, drop, filter, refl, sym, ap, ltb, eqb, arith}
 use Rattle.std.proofs.lemmas.Bool.{cases_Bool, cases_lt, lt-ltb, le-ltb, eqb-true, eqb-false}
 use Rattle.std.proofs.lemmas.List.Sums.{prefix_len-le-length}

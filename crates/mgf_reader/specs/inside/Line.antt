@@ -9,11 +9,11 @@ use Rattle.mgf_reader.specs.declared.setting.SettingFault.TheVariants as Fault
 use Rattle.mgf_reader.specs.declared.fault.MgfKind.{MgfKind}
 use Rattle.mgf_reader.specs.declared.fault.MgfKind.TheVariants as Kind
 use Rattle.mgf_reader.specs.Bytes.{fields_of}
-use Rattle.mgf_reader.specs.Form.{Form, too_long, blank, comment, begin, end, parameter, peak, remark, no_form}
+use Rattle.mgf_reader.specs.LineForm.{LineForm, too_long, blank, comment, begin, end, parameter, peak, remark, no_form}
 use Rattle.mgf_reader.specs.Parameter.{title, precursor, charge, value_in, precursor_units, charges_of}
 
 -- the form of a line that was read
-abbrev pub form_of_line : Line → Form
+abbrev pub form_of_line : Line → LineForm
 form_of_line TooLong = too_long
 form_of_line Blank = blank
 form_of_line Comment = comment

@@ -1,20 +1,22 @@
--- How the reading of a text goes on with more of it.
-use Rattle.std.proofs.Common.{◌≡◌, ℕ, ◌+◌, ◌⊎◌, Bool, true, false, nat_lt, if◌then◌else◌, List, [], ◌∷◌, ◌++◌, length, Option, Some, None, refl, sym, ◌∙◌, ap, subst, append_assoc, append-nil, length-append, inl, inr, ⊎_elim, arith}
+-- For `SoFar` and `Reads`: how the reading of a text goes on with more of it.
+use Rattle.std.proofs.Common.{◌≡◌, ℕ, ◌+◌, ◌⊎◌, Bool, true, false, nat_lt, if◌then◌else◌, List, [], ◌∷◌, ◌++◌, length, Option, Some, None, Result, Ok, Err, refl, sym, ◌∙◌, ap, subst, append_assoc, append-nil, length-append, inl, inr, ⊎_elim, arith}
 use Rattle.std.specs.List.{AllByRecursion, flat_map}
 use Rattle.std.proofs.lemmas.Bool.{ltb-true, lt-ltb}
 use Rattle.mgf_reader.specs.declared.fault.MgfKind.{MgfKind}
 use Rattle.mgf_reader.specs.declared.fault.MgfKind.TheVariants.{LineTooLong}
 use Rattle.mgf_reader.specs.declared.fault.MgfFault.{MgfFault}
+use Rattle.mgf_reader.specs.declared.fault.FeedFault.{FeedFault}
+use Rattle.mgf_reader.specs.declared.fault.FeedFault.TheVariants.{Mgf, OutOfMemory}
 use Rattle.mgf_reader.specs.Spectrum.{SpectrumValue}
-use Rattle.mgf_reader.specs.Text.{longest_line, without_mark, ended_lines, unfinished_line, line_if_any, lines_of, judged_lines}
-use Rattle.mgf_reader.specs.Form.{Form, too_long, begin, end, form_of}
+use Rattle.mgf_reader.specs.Text.{greatest_line, without_mark, ended_lines, unfinished_line, line_if_any, lines_of, judged_lines}
+use Rattle.mgf_reader.specs.LineForm.{LineForm, too_long, begin, end, form_of}
 use Rattle.mgf_reader.specs.Grammar.{fault_outside, fault_inside, peaks_of, IsInside, Piece, outside, block, piece_lines, IsPiece, Rest, nothing, stray, refused, open_block, ReadsLines, Reads, SoFar}
 use Rattle.mgf_reader.specs.Stands.{IsFirstPart, Broken}
-use Rattle.mgf_reader.specs.Cutting.{HasNoLineFeed}
-use Rattle.mgf_reader.specs.Judging.{Judged, fault_behind, left_behind, counted}
-use Rattle.mgf_reader.proofs.OneMore.{all-append, all-back}
-use Rattle.mgf_reader.proofs.Following.{IsOpen, Follows, follows-next, follows-fault, follows-so_far, follows-end_of, reading-follows}
-use Rattle.mgf_reader.proofs.LineFeeds.{first_feed, ended-free, unfinished-free, ended-feed, unfinished-no_feed, ended-more, unfinished-more, mark-one, mark-two, mark-long, mark-free, ended-fed, unfinished-fed}
+use Rattle.mgf_reader.specs.inside.Cutting.{HasNoLineFeed}
+use Rattle.mgf_reader.specs.inside.Judging.{Judged, Judges, fault_behind, left_behind, counted}
+use Rattle.mgf_reader.proofs.SpectraOf.{all-append, all-back}
+use Rattle.mgf_reader.proofs.Judges.{IsOpen, Follows, follows-next, follows-fault, follows-so_far, follows-end_of, reading-follows}
+use Rattle.mgf_reader.proofs.EndedLines.{first_feed, ended-free, unfinished-free, ended-feed, unfinished-no_feed, ended-more, unfinished-more, mark-one, mark-two, mark-long, mark-free, ended-fed, unfinished-fed}
 
 -- each line of a reading without a fault is of a right length
 abbrev IsFine : List ℕ → Type 0
@@ -52,15 +54,30 @@ pub record Extends (at_end : Bool) (lines : List (List ℕ)) (spectra : List Spe
   pub reads : ReadsLines at_end lines all fault
   pub part : IsFirstPart spectra all
 
-left-waits-by : (waiting : List SpectrumValue) (old : Judged) (found : Option SpectrumValue) (form : Form) → old.waiting ≡ waiting → IsFirstPart waiting (left_behind (record old { block = found }) form).waiting
+left-waits-by : (waiting : List SpectrumValue) (old : Judged) (found : Option SpectrumValue) (form : LineForm) → old.waiting ≡ waiting → IsFirstPart waiting (left_behind (record old { block = found }) form).waiting
 left-waits-by waiting old None begin is = ([], is ∙ sym (append-nil waiting))
 left-waits-by waiting old None form is = ([], is ∙ sym (append-nil waiting))
 left-waits-by waiting old (Some now) end is = (now ∷ [], ap (λ w. w ++ now ∷ []) is)
 left-waits-by waiting old (Some now) form is = ([], is ∙ sym (append-nil waiting))
 
 -- what waited before a line goes on waiting behind it
-left-waits : (old : Judged) (form : Form) → IsFirstPart old.waiting (left_behind (counted old) form).waiting
+left-waits : (old : Judged) (form : LineForm) → IsFirstPart old.waiting (left_behind (counted old) form).waiting
 left-waits old form = left-waits-by old.waiting (counted old) old.block form refl
+
+-- nothing more waits
+pub first_part-same : (a b : List SpectrumValue) → b ≡ a → IsFirstPart a b
+first_part-same a b is = ([], is ∙ sym (append-nil a))
+
+pub first_part-then : (a b c : List SpectrumValue) → IsFirstPart a b → IsFirstPart b c → IsFirstPart a c
+first_part-then a b c first second =
+    (first.0 ++ second.0, second.1 ∙ ap (λ l. l ++ second.0) first.1 ∙ append_assoc a first.0 second.0)
+
+-- whatever a line is judged to be, what waited goes on waiting
+pub judges-waits : (old new : Judged) (form : LineForm) (result : Result (Unit {0}) FeedFault) → Judges old form result new
+    → IsFirstPart old.waiting new.waiting
+judges-waits old new form (Ok done) is = subst (λ (j : Judged). IsFirstPart old.waiting j.waiting) (sym is.1) (left-waits old form)
+judges-waits old new form (Err (Mgf fault)) is = first_part-same old.waiting new.waiting is.2
+judges-waits old new form (Err OutOfMemory) is = first_part-same old.waiting new.waiting is
 
 first_part-join : (a b c out : List SpectrumValue) → IsFirstPart a b → IsFirstPart (out ++ b) c → IsFirstPart (out ++ a) c
 first_part-join a b c out first second = (first.0 ++ second.0, second.1 ∙ ap (λ l. (out ++ l) ++ second.0) first.1 ∙ ap (λ l. l ++ second.0) (sym (append_assoc out a first.0)) ∙ append_assoc (out ++ a) first.0 second.0)
@@ -168,15 +185,15 @@ fault-grows at_end init extra last longer spectra fault same reads =
 
 -- what is judged of an unfinished line
 abbrev long_line : List ℕ → List (List ℕ)
-long_line line = if nat_lt longest_line (length line) then line ∷ [] else []
+long_line line = if nat_lt greatest_line (length line) then line ∷ [] else []
 
-pub is-too_long : (line : List ℕ) → nat_lt longest_line (length line) ≡ true → form_of line ≡ too_long
+pub is-too_long : (line : List ℕ) → nat_lt greatest_line (length line) ≡ true → form_of line ≡ too_long
 is-too_long line long = rw long refl
 
-pub judged-long : (text : List ℕ) → nat_lt longest_line (length (unfinished_line (without_mark text))) ≡ true → judged_lines text ≡ ended_lines (without_mark text) ++ unfinished_line (without_mark text) ∷ []
+pub judged-long : (text : List ℕ) → nat_lt greatest_line (length (unfinished_line (without_mark text))) ≡ true → judged_lines text ≡ ended_lines (without_mark text) ++ unfinished_line (without_mark text) ∷ []
 judged-long text long = rw long refl
 
-pub judged-short : (text : List ℕ) → nat_lt longest_line (length (unfinished_line (without_mark text))) ≡ false → judged_lines text ≡ ended_lines (without_mark text)
+pub judged-short : (text : List ℕ) → nat_lt greatest_line (length (unfinished_line (without_mark text))) ≡ false → judged_lines text ≡ ended_lines (without_mark text)
 judged-short text short = rw short (append-nil (ended_lines (without_mark text)))
 
 -- a line that is too long stays so however it goes on
@@ -184,14 +201,14 @@ pub record Longer (lines : List (List ℕ)) : Type 0 where
   pub line : List ℕ
   pub extra : List (List ℕ)
   pub is : lines ≡ line ∷ extra
-  pub long : nat_lt longest_line (length line) ≡ true
+  pub long : nat_lt greatest_line (length line) ≡ true
 
-line-longer : (line more : List ℕ) → HasNoLineFeed line → nat_lt longest_line (length line) ≡ true → Longer (ended_lines (line ++ more) ++ long_line (unfinished_line (line ++ more)))
+line-longer : (line more : List ℕ) → HasNoLineFeed line → nat_lt greatest_line (length line) ≡ true → Longer (ended_lines (line ++ more) ++ long_line (unfinished_line (line ++ more)))
 line-longer line more free long =
     ⊎_elim
     (λ more_free.
     let both : HasNoLineFeed (line ++ more) = all-append (λ byte. byte ≡ 10 → ⊥) line more free more_free in
-    let still : nat_lt longest_line (length (line ++ more)) ≡ true = lt-ltb longest_line (length (line ++ more)) (omega (arith, ltb-true longest_line (length line) long, length-append line more)) in
+    let still : nat_lt greatest_line (length (line ++ more)) ≡ true = lt-ltb greatest_line (length (line ++ more)) (omega (arith, ltb-true greatest_line (length line) long, length-append line more)) in
     record {
       line = line ++ more;
       extra = [];
@@ -205,15 +222,15 @@ line-longer line more free long =
       line = line ++ fed.line;
       extra = ended_lines fed.more ++ long_line (unfinished_line (line ++ more));
       is = ap (λ lines. lines ++ long_line (unfinished_line (line ++ more))) (ap ended_lines whole ∙ ended-feed (line ++ fed.line) fed.more both);
-      long = lt-ltb longest_line (length (line ++ fed.line)) (omega (arith, ltb-true longest_line (length line) long, length-append line fed.line));
+      long = lt-ltb greatest_line (length (line ++ fed.line)) (omega (arith, ltb-true greatest_line (length line) long, length-append line fed.line));
     })
     (first_feed more)
 
 -- a text that is long has its mark whole
-mark-whole : (text more : List ℕ) → nat_lt longest_line (length (without_mark text)) ≡ true → without_mark (text ++ more) ≡ without_mark text ++ more
-mark-whole [] more long = absurd (omega (arith, ltb-true longest_line (length (without_mark [])) long))
-mark-whole (a ∷ []) more long = absurd (omega (arith, ltb-true longest_line (length (without_mark (a ∷ []))) long, ap length (mark-one a)))
-mark-whole (a ∷ b ∷ []) more long = absurd (omega (arith, ltb-true longest_line (length (without_mark (a ∷ b ∷ []))) long, ap length (mark-two a b)))
+mark-whole : (text more : List ℕ) → nat_lt greatest_line (length (without_mark text)) ≡ true → without_mark (text ++ more) ≡ without_mark text ++ more
+mark-whole [] more long = absurd (omega (arith, ltb-true greatest_line (length (without_mark [])) long))
+mark-whole (a ∷ []) more long = absurd (omega (arith, ltb-true greatest_line (length (without_mark (a ∷ []))) long, ap length (mark-one a)))
+mark-whole (a ∷ b ∷ []) more long = absurd (omega (arith, ltb-true greatest_line (length (without_mark (a ∷ b ∷ []))) long, ap length (mark-two a b)))
 mark-whole (a ∷ b ∷ c ∷ text) more long = mark-long a b c text more
 
 -- the lines of a longer text begin with those that are ended
@@ -227,20 +244,20 @@ ended-first text more =
     (first_feed text)
 
 -- and then with the one that is too long
-long-first : (text more : List ℕ) → nat_lt longest_line (length (unfinished_line (without_mark text))) ≡ true → (after : List (List ℕ)) × (judged_lines (text ++ more) ≡ ended_lines (without_mark text) ++ after) × Longer after
+long-first : (text more : List ℕ) → nat_lt greatest_line (length (unfinished_line (without_mark text))) ≡ true → (after : List (List ℕ)) × (judged_lines (text ++ more) ≡ ended_lines (without_mark text) ++ after) × Longer after
 long-first text more long =
     ⊎_elim
     (λ free.
     let bare : List ℕ = without_mark text in
     let bare_free : HasNoLineFeed bare = mark-free text free in
-    let bare_long : nat_lt longest_line (length bare) ≡ true = ap (λ l. nat_lt longest_line (length l)) (sym (unfinished-free bare bare_free)) ∙ long in
+    let bare_long : nat_lt greatest_line (length bare) ≡ true = ap (λ l. nat_lt greatest_line (length l)) (sym (unfinished-free bare bare_free)) ∙ long in
     let after : List (List ℕ) = ended_lines (bare ++ more) ++ long_line (unfinished_line (bare ++ more)) in
     (after, ap (λ t. ended_lines t ++ long_line (unfinished_line t)) (mark-whole text more bare_long) ∙ ap (λ lines. lines ++ after) (sym (ended-free bare bare_free)), line-longer bare more bare_free bare_long))
     (λ fed.
     let tail : List ℕ = unfinished_line fed.more in
     let some : ended_lines (without_mark text) ≡ without_mark fed.line ∷ ended_lines fed.more = ap (λ t. ended_lines (without_mark t)) fed.whole ∙ ended-fed fed.line fed.more fed.free in
     let same : unfinished_line (without_mark text) ≡ tail = ap (λ t. unfinished_line (without_mark t)) fed.whole ∙ unfinished-fed fed.line fed.more fed.free in
-    let tail_long : nat_lt longest_line (length tail) ≡ true = ap (λ l. nat_lt longest_line (length l)) (sym same) ∙ long in
+    let tail_long : nat_lt greatest_line (length tail) ≡ true = ap (λ l. nat_lt greatest_line (length l)) (sym same) ∙ long in
     let behind : text ++ more ≡ fed.line ++ 10 ∷ (fed.more ++ more) = ap (λ t. t ++ more) fed.whole ∙ append_assoc fed.line (10 ∷ fed.more) more in
     let ended : ended_lines (without_mark (text ++ more)) ≡ ended_lines (without_mark text) ++ ended_lines (tail ++ more) = ap (λ t. ended_lines (without_mark t)) behind ∙ ended-fed fed.line (fed.more ++ more) fed.free ∙ ap (λ lines. without_mark fed.line ∷ lines) (ended-more fed.more more) ∙ ap (λ lines. lines ++ ended_lines (tail ++ more)) (sym some) in
     let rest : unfinished_line (without_mark (text ++ more)) ≡ unfinished_line (tail ++ more) = ap (λ t. unfinished_line (without_mark t)) behind ∙ unfinished-fed fed.line (fed.more ++ more) fed.free ∙ unfinished-more fed.more more in
@@ -253,14 +270,14 @@ bool-known true = inl refl
 bool-known false = inr refl
 
 -- the judged lines of a longer text, where the unfinished line was short
-judged-first : (text more : List ℕ) → nat_lt longest_line (length (unfinished_line (without_mark text))) ≡ false → (extra : List (List ℕ)) × (judged_lines (text ++ more) ≡ judged_lines text ++ extra)
+judged-first : (text more : List ℕ) → nat_lt greatest_line (length (unfinished_line (without_mark text))) ≡ false → (extra : List (List ℕ)) × (judged_lines (text ++ more) ≡ judged_lines text ++ extra)
 judged-first text more short =
     let first = ended-first text more in
     let rest : List (List ℕ) = long_line (unfinished_line (without_mark (text ++ more))) in
     (first.0 ++ rest, ap (λ lines. lines ++ rest) first.1 ∙ append_assoc (ended_lines (without_mark text)) first.0 rest ∙ ap (λ lines. lines ++ (first.0 ++ rest)) (sym (judged-short text short)))
 
-any-long : (line : List ℕ) → nat_lt longest_line (length line) ≡ true → line_if_any line ≡ line ∷ []
-any-long [] long = absurd (omega (arith, ltb-true longest_line 0 long))
+any-long : (line : List ℕ) → nat_lt greatest_line (length line) ≡ true → line_if_any line ≡ line ∷ []
+any-long [] long = absurd (omega (arith, ltb-true greatest_line 0 long))
 any-long (byte ∷ bytes) long = refl
 
 -- the fault of a text is that of a longer one
@@ -275,7 +292,7 @@ fault-goes text more spectra fault reads =
     (λ short.
     let first = judged-first text more short in
     subst (λ l. ReadsLines false l spectra (Some fault)) (sym first.1) (fault-longer false (judged_lines text) first.0 spectra fault reads))
-    (bool-known (nat_lt longest_line (length (unfinished_line (without_mark text)))))
+    (bool-known (nat_lt greatest_line (length (unfinished_line (without_mark text)))))
 
 -- and that of the text as a whole
 pub fault-ends : (text : List ℕ) (spectra : List SpectrumValue) (fault : MgfFault) → SoFar text spectra (Some fault) → Reads text spectra (Some fault)
@@ -286,15 +303,15 @@ fault-ends text spectra fault reads =
     subst (λ l. ReadsLines true l spectra (Some fault)) same (fault-longer true (judged_lines text) [] spectra fault reads))
     (λ short.
     subst (λ l. ReadsLines true l spectra (Some fault)) (ap (λ l. l ++ line_if_any (unfinished_line (without_mark text))) (judged-short text short)) (fault-longer true (judged_lines text) (line_if_any (unfinished_line (without_mark text))) spectra fault reads))
-    (bool-known (nat_lt longest_line (length (unfinished_line (without_mark text)))))
+    (bool-known (nat_lt greatest_line (length (unfinished_line (without_mark text)))))
 
 -- where no line is wrong, the unfinished one is short
-pub follows-short : (old : Judged) (text : List ℕ) (out : List SpectrumValue) → Follows old (judged_lines text) out → nat_lt longest_line (length (unfinished_line (without_mark text))) ≡ false
+pub follows-short : (old : Judged) (text : List ℕ) (out : List SpectrumValue) → Follows old (judged_lines text) out → nat_lt greatest_line (length (unfinished_line (without_mark text))) ≡ false
 follows-short old text out follows =
     ⊎_elim
     (λ long. absurd (none-too_long old (judged_lines text) out (ended_lines (without_mark text)) (unfinished_line (without_mark text)) follows (judged-long text long) (is-too_long (unfinished_line (without_mark text)) long)))
     (λ short. short)
-    (bool-known (nat_lt longest_line (length (unfinished_line (without_mark text)))))
+    (bool-known (nat_lt greatest_line (length (unfinished_line (without_mark text)))))
 
 -- the spectra of a text come first in a longer one
 pub reading-breaks : (text more : List ℕ) (spectra : List SpectrumValue) (fault : Option MgfFault) → SoFar text spectra fault → Broken (SoFar (text ++ more)) spectra

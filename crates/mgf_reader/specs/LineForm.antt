@@ -3,30 +3,33 @@ use Rattle.std.specs.Prelude.{ℕ, List, [], ◌∷◌, Bool, false, ◌&&◌, i
 use Rattle.std.specs.List.{before_first, after_first, list_any}
 use Rattle.std.specs.Str.{str_eq_ignore_ascii_case}
 use Rattle.mgf_reader.specs.Bytes.{is_blank, is_edge, is_name_byte, is_comment_mark, is_peak_start, is_equals, trimmed, fields_of}
-use Rattle.mgf_reader.specs.Text.{longest_line}
+use Rattle.mgf_reader.specs.Text.{greatest_line}
 
-pub data Form : Type 0 where
-  too_long : Form
-  blank : Form
-  comment : Form
-  begin : Form
-  end : Form
-  parameter : List ℕ → List ℕ → Form
-  peak : List (List ℕ) → Form
-  remark : Form
-  no_form : Form
+-- what a line is, with what a parameter line and a peak line hold
+pub data LineForm : Type 0 where
+  too_long : LineForm
+  blank : LineForm
+  comment : LineForm
+  begin : LineForm
+  end : LineForm
+  parameter : List ℕ → List ℕ → LineForm
+  peak : List (List ℕ) → LineForm
+  remark : LineForm
+  no_form : LineForm
 
 -- two fields that are these words, without ASCII case
 abbrev pub are_words : List (List ℕ) → List ℕ → List ℕ → Bool
-are_words (first ∷ second ∷ []) one other = str_eq_ignore_ascii_case first one && str_eq_ignore_ascii_case second other
+are_words (first ∷ second ∷ []) one other =
+    str_eq_ignore_ascii_case first one && str_eq_ignore_ascii_case second other
 are_words fields one other = false
 
 -- the key of a parameter line stands before the first equals sign, its value after it
-abbrev pub parameter_of : List ℕ → Form
-parameter_of line = parameter (trimmed is_blank (before_first is_equals line)) (trimmed is_blank (after_first is_equals line))
+abbrev pub parameter_of : List ℕ → LineForm
+parameter_of line =
+    parameter (trimmed is_blank (before_first is_equals line)) (trimmed is_blank (after_first is_equals line))
 
 -- the form of a line of bounded length without the bytes at its ends that are dropped
-unfoldable pub form_within : List ℕ → Form
+unfoldable pub form_within : List ℕ → LineForm
 form_within [] = blank
 form_within (first ∷ rest) =
     if is_comment_mark first then comment
@@ -37,5 +40,6 @@ form_within (first ∷ rest) =
     else if is_name_byte first then remark
     else no_form
 
-abbrev pub form_of : List ℕ → Form
-form_of line = if nat_lt longest_line (length line) then too_long else form_within (trimmed is_edge line)
+-- the form of a line without its line feed
+abbrev pub form_of : List ℕ → LineForm
+form_of line = if nat_lt greatest_line (length line) then too_long else form_within (trimmed is_edge line)

@@ -1,4 +1,4 @@
--- What a reader answers, from what it took in.
+-- For the clauses `answers` and `broken` of `Reader`: what a reader answers, from what it took in.
 use Rattle.std.proofs.Common.{◌≡◌, ◌≢◌, ℕ, Bool, List, ◌++◌, Option, Some, None, Result, Ok, Err, refl, sym, ap, subst}
 use Rattle.std.specs.Option.{option_map}
 use Rattle.std.specs.Result.{result_err}
@@ -8,9 +8,9 @@ use Rattle.mgf_reader.specs.declared.fault.FeedFault.TheVariants.{Mgf, OutOfMemo
 use Rattle.mgf_reader.specs.Spectrum.{SpectrumValue}
 use Rattle.mgf_reader.specs.Grammar.{Reads, SoFar}
 use Rattle.mgf_reader.specs.Stands.{ReaderValue, Stands, Answers, Broken}
-use Rattle.mgf_reader.specs.Cutting.{Kept, TakesIn, Ends}
-use Rattle.mgf_reader.proofs.Standing.{stands-reads}
-use Rattle.mgf_reader.proofs.Extending.{fault-ends}
+use Rattle.mgf_reader.specs.inside.Cutting.{Kept, TakesIn, Ends}
+use Rattle.mgf_reader.proofs.TakesIn.{stands-reads}
+use Rattle.mgf_reader.proofs.SoFar.{fault-ends}
 
 -- a reader with its counts
 abbrev pub reader_of : ℕ → Bool → Option FeedFault → Kept → ReaderValue

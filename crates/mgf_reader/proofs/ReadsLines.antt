@@ -1,4 +1,4 @@
--- Some lines are read in one way only: where a block ends, which pieces there are, and what the rest says.
+-- For `ReadsLines`: lines are read in one way only, so where a block ends, which pieces there are, and what the rest says.
 use Rattle.std.proofs.Common.{◌≡◌, ◌≤◌, ◌+◌, ◌∙◌, ◌++◌, ℕ, Bool, false, List, [], ◌∷◌, length, refl, sym, ap, subst, append_assoc, length-append, arith}
 use Rattle.std.proofs.lemmas.Bool.Decides.{nat_tests}
 use Rattle.std.specs.Prelude.{Option, Some, None, is_none, nat_le, if◌then◌else◌}
@@ -9,9 +9,10 @@ use Rattle.mgf_reader.specs.declared.fault.MgfKind.{MgfKind}
 use Rattle.mgf_reader.specs.declared.fault.MgfKind.TheVariants.{BadPeak, TooManyPeaks, OpenBlock}
 use Rattle.mgf_reader.specs.declared.fault.MgfFault.{MgfFault}
 use Rattle.mgf_reader.specs.Spectrum.{PeakValue, SpectrumValue}
-use Rattle.mgf_reader.specs.Form.{Form, too_long, blank, comment, begin, end, parameter, peak, remark, no_form, form_of}
+use Rattle.mgf_reader.specs.LineForm.{LineForm, too_long, blank, comment, begin, end, parameter, peak, remark, no_form, form_of}
 use Rattle.mgf_reader.specs.PeakLine.{peak_of, intensity_of}
-use Rattle.mgf_reader.specs.Grammar.{most_peaks, fault_outside, fault_inside, peak_in, peaks_of, IsOutside, IsInside, IsBody, Piece, outside, block, piece_lines, IsPiece, spectra_of, Rest, nothing, stray, refused, open_block, ReadsLines}
+use Rattle.mgf_reader.specs.Grammar.{greatest_peaks_of_a_block, fault_outside, fault_inside, peak_in, peaks_of, IsOutside, IsInside, IsBlockBody, Piece, outside, block, piece_lines, IsPiece, spectra_of, Rest, nothing, stray, refused, open_block, ReadsLines}
+use Rattle.mgf_reader.proofs.SpectraOf.{peaks_of-length}
 
 -- lists and options of the same parts
 
@@ -33,52 +34,25 @@ same_kind kind other e = cc
 not_none : (kind : MgfKind) → None ≡ Some kind → ⊥
 not_none kind e = cc
 
--- how many peaks lines have does not depend on their numbers
-
-abbrev peak_by : ℕ → Option ℕ → Option ℕ → Option PeakValue
-peak_by number mz intensity = option_and_then (λ m. option_and_then (λ i. Some (record { mz = m; intensity = i; line = number })) intensity) mz
-
-length-peak_by : (n m : ℕ) (mz intensity : Option ℕ) → length (option_to_list (peak_by n mz intensity)) ≡ length (option_to_list (peak_by m mz intensity))
-length-peak_by n m None intensity = refl
-length-peak_by n m (Some mz) None = refl
-length-peak_by n m (Some mz) (Some intensity) = refl
-
-length-peak_of : (n m : ℕ) (fields : List (List ℕ)) → length (option_to_list (peak_of n fields)) ≡ length (option_to_list (peak_of m fields))
-length-peak_of n m [] = refl
-length-peak_of n m (field ∷ fields) = length-peak_by n m (readable_units 7 field) (intensity_of fields)
-
-length-peak_in : (n m : ℕ) (form : Form) → length (peak_in n form) ≡ length (peak_in m form)
-length-peak_in n m (peak fields) = length-peak_of n m fields
-length-peak_in n m form = refl
+-- the peaks of some lines, one line more at their front
 
 abbrev peak_count : List ℕ → ℕ
 peak_count line = length (peak_in 0 (form_of line))
 
-same_sums : (a b c d : ℕ) → a ≡ c → b ≡ d → a + b ≡ c + d
-same_sums a b c d one two = cc
-
-length-peaks_of : (n m : ℕ) (lines : List (List ℕ)) → length (peaks_of n lines) ≡ length (peaks_of m lines)
-length-peaks_of n m [] = refl
-length-peaks_of n m (line ∷ lines) =
-    length-append (peak_in n (form_of line)) (peaks_of (n + 1) lines)
-    ∙ same_sums (length (peak_in n (form_of line))) (length (peaks_of (n + 1) lines)) (length (peak_in m (form_of line))) (length (peaks_of (m + 1) lines))
-    (length-peak_in n m (form_of line)) (length-peaks_of (n + 1) (m + 1) lines)
-    ∙ sym (length-append (peak_in m (form_of line)) (peaks_of (m + 1) lines))
-
 length-peaks_of-more : (line : List ℕ) (lines : List (List ℕ)) → length (peaks_of 0 (line ∷ lines)) ≡ peak_count line + length (peaks_of 0 lines)
 length-peaks_of-more line lines =
-    length-append (peak_in 0 (form_of line)) (peaks_of 1 lines) ∙ ap (λ (k : ℕ). peak_count line + k) (length-peaks_of 1 0 lines)
+    length-append (peak_in 0 (form_of line)) (peaks_of 1 lines) ∙ ap (λ (k : ℕ). peak_count line + k) (peaks_of-length 1 0 lines)
 
 -- a line that may stand in a block and makes no peak too many has no fault there
 
 abbrev peak_fault : ℕ → Option PeakValue → Option MgfKind
-peak_fault peaks read = if is_none read then Some BadPeak else if nat_le most_peaks peaks then Some TooManyPeaks else None
+peak_fault peaks read = if is_none read then Some BadPeak else if nat_le greatest_peaks_of_a_block peaks then Some TooManyPeaks else None
 
-peak_is_right : (n : ℕ) (read : Option PeakValue) → peak_fault 0 read ≡ None → n + length (option_to_list read) ≤ most_peaks → peak_fault n read ≡ None
+peak_is_right : (n : ℕ) (read : Option PeakValue) → peak_fault 0 read ≡ None → n + length (option_to_list read) ≤ greatest_peaks_of_a_block → peak_fault n read ≡ None
 peak_is_right n None right few = cc
-peak_is_right n (Some value) right few = let below : nat_le most_peaks n ≡ false = grind (arith, nat_tests) in rw below refl
+peak_is_right n (Some value) right few = let below : nat_le greatest_peaks_of_a_block n ≡ false = grind (arith, nat_tests) in rw below refl
 
-form_is_right : (n : ℕ) (form : Form) → fault_inside 0 form ≡ None → n + length (peak_in 0 form) ≤ most_peaks → fault_inside n form ≡ None
+form_is_right : (n : ℕ) (form : LineForm) → fault_inside 0 form ≡ None → n + length (peak_in 0 form) ≤ greatest_peaks_of_a_block → fault_inside n form ≡ None
 form_is_right n too_long right few = right
 form_is_right n blank right few = refl
 form_is_right n comment right few = refl
@@ -97,12 +71,12 @@ data IsStop (peaks : ℕ) (line : List ℕ) : Type 0 where
 -- lines that may follow in a block that has so many peaks
 record GoesOn (peaks : ℕ) (body : List (List ℕ)) : Type 0 where
   inside : AllByRecursion IsInside body
-  few : peaks + length (peaks_of 0 body) ≤ most_peaks
+  few : peaks + length (peaks_of 0 body) ≤ greatest_peaks_of_a_block
 
 few_peaks : (n m c r t most : ℕ) → m ≡ n → t ≡ c + r → n + t ≤ most → m + c ≤ most
 few_peaks n m c r t most same parts h = omega arith
 
-inside_is_no_stop : (n : ℕ) (line : List ℕ) → IsInside line → n + peak_count line ≤ most_peaks → IsStop n line → ⊥
+inside_is_no_stop : (n : ℕ) (line : List ℕ) → IsInside line → n + peak_count line ≤ greatest_peaks_of_a_block → IsStop n line → ⊥
 inside_is_no_stop n line inside few (closes ends) = inside.no_end ends
 inside_is_no_stop n line inside few (fails kind bad) = not_none kind (sym (form_is_right n (form_of line) inside.right few) ∙ bad)
 
@@ -114,7 +88,7 @@ first_is_no_stop : (n : ℕ) (line stop : List ℕ) (body : List (List ℕ)) →
 first_is_no_stop n line stop body same on stops =
     let P : List ℕ → Type 0 = λ l. IsStop (n + length (peaks_of 0 [])) l in
     inside_is_no_stop (n + length (peaks_of 0 [])) line on.inside.0
-    (few_peaks n (n + length (peaks_of 0 [])) (peak_count line) (length (peaks_of 0 body)) (length (peaks_of 0 (line ∷ body))) most_peaks (no_peaks_yet n) (length-peaks_of-more line body) on.few)
+    (few_peaks n (n + length (peaks_of 0 [])) (peak_count line) (length (peaks_of 0 body)) (length (peaks_of 0 (line ∷ body))) greatest_peaks_of_a_block (no_peaks_yet n) (length-peaks_of-more line body) on.few)
     (subst P same stops)
 
 sum_of_parts : (n c r t : ℕ) → t ≡ c + r → n + t ≡ (n + c) + r
@@ -128,7 +102,7 @@ peaks_behind n line other body same =
 
 on_behind : (n : ℕ) (line other : List ℕ) (body : List (List ℕ)) → line ≡ other → GoesOn n (other ∷ body) → GoesOn (n + peak_count line) body
 on_behind n line other body same on =
-    let P : ℕ → Type 0 = λ k. k ≤ most_peaks in
+    let P : ℕ → Type 0 = λ k. k ≤ greatest_peaks_of_a_block in
     record { inside = on.inside.1; few = subst P (peaks_behind n line other body same) on.few }
 
 stop_behind : (n : ℕ) (line other : List ℕ) (body : List (List ℕ)) (stop : List ℕ) → line ≡ other → IsStop (n + length (peaks_of 0 (other ∷ body))) stop → IsStop ((n + peak_count line) + length (peaks_of 0 body)) stop
@@ -169,9 +143,9 @@ no_stop_within n (line ∷ body) (twin ∷ whole) stop more stops on same =
 zero_and : (n : ℕ) → n ≡ 0 + n
 zero_and n = omega arith
 
-whole_body : (body : List (List ℕ)) → IsBody body → GoesOn 0 body
+whole_body : (body : List (List ℕ)) → IsBlockBody body → GoesOn 0 body
 whole_body body is =
-    let P : ℕ → Type 0 = λ k. k ≤ most_peaks in
+    let P : ℕ → Type 0 = λ k. k ≤ greatest_peaks_of_a_block in
     record { inside = is.lines; few = subst P (zero_and (length (peaks_of 0 body))) is.peaks }
 
 whole_stop : (body : List (List ℕ)) (stop : List ℕ) → IsStop (length (peaks_of 0 body)) stop → IsStop (0 + length (peaks_of 0 body)) stop
@@ -179,13 +153,13 @@ whole_stop body stop stops = let P : ℕ → Type 0 = λ k. IsStop k stop in sub
 
 -- the same of a whole block
 blocks_stop_once : (body other : List (List ℕ)) (stop another : List ℕ) (more further : List (List ℕ))
-    → IsBody body → IsStop (length (peaks_of 0 body)) stop → IsBody other → IsStop (length (peaks_of 0 other)) another
+    → IsBlockBody body → IsStop (length (peaks_of 0 body)) stop → IsBlockBody other → IsStop (length (peaks_of 0 other)) another
     → body ++ stop ∷ more ≡ other ++ another ∷ further → (body ≡ other) × (stop ∷ more ≡ another ∷ further)
 blocks_stop_once body other stop another more further is stops it halts same =
     stops_once 0 body other stop another more further (whole_body body is) (whole_stop body stop stops) (whole_body other it) (whole_stop other another halts) same
 
 no_stop_in_body : (body whole : List (List ℕ)) (stop : List ℕ) (more : List (List ℕ))
-    → IsStop (length (peaks_of 0 body)) stop → IsBody whole → whole ≡ body ++ stop ∷ more → ⊥
+    → IsStop (length (peaks_of 0 body)) stop → IsBlockBody whole → whole ≡ body ++ stop ∷ more → ⊥
 no_stop_in_body body whole stop more stops is same = no_stop_within 0 body whole stop more (whole_stop body stop stops) (whole_body whole is) same
 
 -- a line that opens a block has no fault outside, and one that closes it has none inside

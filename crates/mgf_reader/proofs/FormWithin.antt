@@ -1,4 +1,4 @@
--- The form of a line by its first byte.
+-- For `form_within`: the form of a line by its first byte.
 use Rattle.std.proofs.Common.{◌≡◌, ◌<◌, ◌≤◌, ℕ, Bool, true, false, List, [], ◌∷◌, length, take, drop, refl, eqb, arith, codes, get_or}
 use Rattle.std.proofs.lemmas.Bool.Decides.{nat_tests}
 use Rattle.std.proofs.lemmas.List.Folds.{list_any_none, list_any_at}
@@ -7,8 +7,8 @@ use Rattle.std.proofs.lemmas.List.Sums.{fails_before_first, passes_at_first}
 use Rattle.std.specs.List.{position_or_len, list_any}
 use Rattle.std.specs.Char.{to_ascii_lowercase}
 use Rattle.mgf_reader.specs.Bytes.{is_blank, is_name_byte, is_comment_mark, is_peak_start, is_equals, fields_of, fields_by}
-use Rattle.mgf_reader.specs.Form.{blank, begin, end, parameter_of, peak, remark, no_form, comment, are_words, form_within}
-use Rattle.mgf_reader.proofs.Fields.{fields_by-field}
+use Rattle.mgf_reader.specs.LineForm.{blank, begin, end, parameter_of, peak, remark, no_form, comment, are_words, form_within}
+use Rattle.mgf_reader.proofs.FieldsBy.{fields_by-field}
 
 none_at_end : (p : ℕ → Bool) (xs : List ℕ) → length xs ≤ position_or_len p xs → list_any p xs ≡ false
 none_at_end p xs h = list_any_none p xs (All-from_get_or (λ x. p x ≡ false) xs 0 (λ i l. fails_before_first p xs i 0 (omega arith)))

@@ -1,4 +1,4 @@
--- How the lines of a text and of more of it hang together.
+-- For `ended_lines` and `unfinished_line`: how the lines of a text and of more of it hang together.
 use Rattle.std.proofs.Common.{◌≡◌, ℕ, zero, suc, ◌+◌, ◌-◌, slice_index, take, length-drop, None, Some, ◌<◌, ◌⊎◌, Bool, true, false, nat_eq, nat_lt, ◌&&◌, cond, List, [], ◌∷◌, ◌++◌, length, drop, refl, sym, ◌∙◌, ap, subst, append_assoc, append-nil, inl, inr, ⊎_elim, arith}
 use Rattle.std.specs.List.{AllByRecursion, flat_map, starts_with}
 use Rattle.std.proofs.lemmas.Bool.{cases_eq, lt-ltb, eqb-true, eq-eqb}
@@ -6,9 +6,9 @@ use Rattle.std.proofs.Math.Seq.{take-length}
 use Rattle.std.proofs.lemmas.Bool.Decides.{eqb_tells}
 use Rattle.memchr.specs.Find.{IsFirstByte, is_byte}
 use Rattle.mgf_reader.specs.Text.{byte_order_mark, without_mark, ended_lines, unfinished_line}
-use Rattle.mgf_reader.specs.Cutting.{HasNoLineFeed}
-use Rattle.mgf_reader.specs.Judging.{line_at}
-use Rattle.mgf_reader.proofs.OneMore.{all-append}
+use Rattle.mgf_reader.specs.inside.Cutting.{HasNoLineFeed}
+use Rattle.mgf_reader.specs.inside.Judging.{line_at}
+use Rattle.mgf_reader.proofs.SpectraOf.{all-append}
 
 differs : (a b : ℕ) → (a ≡ b → ⊥) → nat_eq a b ≡ false
 differs a b other = ⊎_elim (λ same. absurd (other same.1)) (λ different. different.0) (eqb_tells a b)

@@ -1,4 +1,4 @@
--- What taking bytes in does to the text that a reader stands for.
+-- For `TakesIn` and `Ends`: what taking bytes in does to the text that a reader stands for.
 use Rattle.std.proofs.Common.{◌≡◌, ℕ, ◌+◌, ◌<◌, ◌≤◌, Bool, true, false, nat_eq, nat_lt, if◌then◌else◌, take, drop, List, [], ◌∷◌, ◌++◌, length, Option, Some, None, Result, Ok, Err, refl, sym, ◌∙◌, ap, subst, append_assoc, append-nil, arith}
 use Rattle.std.specs.Option.{option_map}
 use Rattle.std.specs.List.{AllByRecursion, flat_map, starts_with}
@@ -9,15 +9,15 @@ use Rattle.mgf_reader.specs.declared.fault.MgfFault.{MgfFault}
 use Rattle.mgf_reader.specs.declared.fault.FeedFault.{FeedFault}
 use Rattle.mgf_reader.specs.declared.fault.FeedFault.TheVariants.{Mgf, OutOfMemory}
 use Rattle.mgf_reader.specs.Spectrum.{SpectrumValue}
-use Rattle.mgf_reader.specs.Text.{longest_line, byte_order_mark, without_mark, ended_lines, unfinished_line, line_if_any, lines_of, judged_lines}
-use Rattle.mgf_reader.specs.Form.{too_long, form_of}
+use Rattle.mgf_reader.specs.Text.{greatest_line, byte_order_mark, without_mark, ended_lines, unfinished_line, line_if_any, lines_of, judged_lines}
+use Rattle.mgf_reader.specs.LineForm.{too_long, form_of}
 use Rattle.mgf_reader.specs.Grammar.{Piece, piece_lines, IsPiece, spectra_of, Rest, nothing, ReadsLines, Reads, SoFar}
 use Rattle.mgf_reader.specs.Stands.{ReaderValue, IsLeft, Stands, Answers, Broken}
-use Rattle.mgf_reader.specs.Cutting.{Kept, reader_with, TakesIn, Ends, HasNoLineFeed}
-use Rattle.mgf_reader.specs.Judging.{Judged, Judges, fault_behind, left_behind, counted, end_of, line_at}
-use Rattle.mgf_reader.proofs.Following.{Follows, IsEnd, follows-next, follows-fault, follows-end_of, open-rest, rest-open}
-use Rattle.mgf_reader.proofs.LineFeeds.{cut, unfinished-now, feed-found}
-use Rattle.mgf_reader.proofs.Extending.{is-too_long, judged-long, judged-short, fault-goes, follows-short, reading-breaks, reading-ends}
+use Rattle.mgf_reader.specs.inside.Cutting.{Kept, reader_with, TakesIn, Ends, HasNoLineFeed}
+use Rattle.mgf_reader.specs.inside.Judging.{Judged, Judges, fault_behind, left_behind, counted, end_of, line_at}
+use Rattle.mgf_reader.proofs.Judges.{Follows, IsEnd, follows-next, follows-fault, follows-end_of, open-rest, rest-open}
+use Rattle.mgf_reader.proofs.EndedLines.{cut, unfinished-now, feed-found}
+use Rattle.mgf_reader.proofs.SoFar.{is-too_long, judged-long, judged-short, fault-goes, follows-short, reading-breaks, reading-ends}
 
 -- what a reader stands for, read so far
 pub record StandsFor (reader : ReaderValue) (text : List ℕ) (out : List SpectrumValue) : Type 0 where
@@ -126,7 +126,7 @@ judged-next kept text part out free goes =
     let short : judged_lines text ≡ ended_lines (without_mark text) = judged-short text (follows-short kept.lines text out goes.follows) in
     let count : kept.lines.judged ≡ length (ended_lines (without_mark text)) = goes.follows.judged ∙ ap length short in
     let line : c.line ≡ line_at kept.lines.judged (kept.unfinished ++ part) = c.line_is ∙ ap (λ n. line_at n (unfinished_line text ++ part)) (sym count) ∙ ap (λ u. line_at kept.lines.judged (u ++ part)) (sym goes.unfinished) in
-    judged-short (text ++ (part ++ 10 ∷ [])) (ap (λ u. nat_lt longest_line (length u)) c.ended_line ∙ refl) ∙ c.ended ∙ ap (λ lines. lines ++ c.line ∷ []) (sym short) ∙ ap (λ l. judged_lines text ++ l ∷ []) line
+    judged-short (text ++ (part ++ 10 ∷ [])) (ap (λ u. nat_lt greatest_line (length u)) c.ended_line ∙ refl) ∙ c.ended ∙ ap (λ lines. lines ++ c.line ∷ []) (sym short) ∙ ap (λ l. judged_lines text ++ l ∷ []) line
 
 -- want of memory leaves a first part of the spectra
 pub takes-broken : (kept new : Kept) (bytes : List ℕ) → new.lines.waiting ≡ kept.lines.waiting → TakesIn kept bytes (Err OutOfMemory) new
@@ -154,7 +154,7 @@ takes-line kept part unfinished new (Err (Mgf fault)) free none judges = λ text
 takes-line kept part unfinished new (Err OutOfMemory) free none judges = takes-broken kept (record { unfinished = unfinished; lines = new }) (part ++ 10 ∷ []) judges
 
 -- a part of a line that is not too long
-pub takes-part : (kept : Kept) (part unfinished : List ℕ) → HasNoLineFeed part → unfinished ≡ kept.unfinished ++ part → length (line_at kept.lines.judged unfinished) ≤ longest_line → TakesIn kept part (Ok tt) (record { unfinished = unfinished; lines = kept.lines })
+pub takes-part : (kept : Kept) (part unfinished : List ℕ) → HasNoLineFeed part → unfinished ≡ kept.unfinished ++ part → length (line_at kept.lines.judged unfinished) ≤ greatest_line → TakesIn kept part (Ok tt) (record { unfinished = unfinished; lines = kept.lines })
 takes-part kept part unfinished free is short = λ text out stands.
     let goes = stands-goes kept text out stands in
     let c = cut text part free in
@@ -162,7 +162,7 @@ takes-part kept part unfinished free is short = λ text out stands.
     let count : kept.lines.judged ≡ length (ended_lines (without_mark text)) = goes.follows.judged ∙ ap length now in
     let held : unfinished ≡ unfinished_line text ++ part = is ∙ ap (λ u. u ++ part) goes.unfinished in
     let line : unfinished_line (without_mark (text ++ part)) ≡ line_at kept.lines.judged unfinished = c.kept_line ∙ c.line_is ∙ ap (λ n. line_at n (unfinished_line text ++ part)) (sym count) ∙ ap (line_at kept.lines.judged) (sym held) in
-    let still : nat_lt longest_line (length (unfinished_line (without_mark (text ++ part)))) ≡ false = ap (λ u. nat_lt longest_line (length u)) line ∙ le-ltb longest_line (length (line_at kept.lines.judged unfinished)) short in
+    let still : nat_lt greatest_line (length (unfinished_line (without_mark (text ++ part)))) ≡ false = ap (λ u. nat_lt greatest_line (length u)) line ∙ le-ltb greatest_line (length (line_at kept.lines.judged unfinished)) short in
     let lines : judged_lines (text ++ part) ≡ judged_lines text = judged-short (text ++ part) still ∙ c.kept_lines ∙ sym now in
     goes-stands (record { unfinished = unfinished; lines = kept.lines }) (text ++ part) out (subst (λ l. Follows kept.lines l out) (sym lines) goes.follows) (held ∙ sym c.kept)
 
@@ -174,7 +174,7 @@ long-behind : (old : Judged) → fault_behind old too_long ≡ Some LineTooLong
 long-behind old = long-behind-by old old.block
 
 -- a part of a line that is too long
-pub takes-long : (kept : Kept) (part unfinished : List ℕ) (fault : MgfFault) → HasNoLineFeed part → longest_line < length (line_at kept.lines.judged (kept.unfinished ++ part)) → fault ≡ record { line = kept.lines.judged + 1; kind = LineTooLong } → TakesIn kept part (Err (Mgf fault)) (record { unfinished = unfinished; lines = kept.lines })
+pub takes-long : (kept : Kept) (part unfinished : List ℕ) (fault : MgfFault) → HasNoLineFeed part → greatest_line < length (line_at kept.lines.judged (kept.unfinished ++ part)) → fault ≡ record { line = kept.lines.judged + 1; kind = LineTooLong } → TakesIn kept part (Err (Mgf fault)) (record { unfinished = unfinished; lines = kept.lines })
 takes-long kept part unfinished fault free long named = λ text out stands.
     let goes = stands-goes kept text out stands in
     let c = cut text part free in
@@ -182,8 +182,8 @@ takes-long kept part unfinished fault free long named = λ text out stands.
     let now : judged_lines text ≡ ended_lines (without_mark text) = judged-short text (follows-short kept.lines text out goes.follows) in
     let count : kept.lines.judged ≡ length (ended_lines (without_mark text)) = goes.follows.judged ∙ ap length now in
     let same : unfinished_line (without_mark (text ++ part)) ≡ line = c.kept_line ∙ c.line_is ∙ ap (λ n. line_at n (unfinished_line text ++ part)) (sym count) ∙ ap (λ u. line_at kept.lines.judged (u ++ part)) (sym goes.unfinished) in
-    let is_long : nat_lt longest_line (length line) ≡ true = lt-ltb longest_line (length line) long in
-    let lines : judged_lines (text ++ part) ≡ judged_lines text ++ line ∷ [] = judged-long (text ++ part) (ap (λ u. nat_lt longest_line (length u)) same ∙ is_long) ∙ ap (λ l. l ++ unfinished_line (without_mark (text ++ part)) ∷ []) (c.kept_lines ∙ sym now) ∙ ap (λ u. judged_lines text ++ u ∷ []) same in
+    let is_long : nat_lt greatest_line (length line) ≡ true = lt-ltb greatest_line (length line) long in
+    let lines : judged_lines (text ++ part) ≡ judged_lines text ++ line ∷ [] = judged-long (text ++ part) (ap (λ u. nat_lt greatest_line (length u)) same ∙ is_long) ∙ ap (λ l. l ++ unfinished_line (without_mark (text ++ part)) ∷ []) (c.kept_lines ∙ sym now) ∙ ap (λ u. judged_lines text ++ u ∷ []) same in
     let bad : fault_behind kept.lines (form_of line) ≡ Some LineTooLong = ap (fault_behind kept.lines) (is-too_long line is_long) ∙ long-behind kept.lines in
     let reads : ReadsLines false (judged_lines text ++ line ∷ []) (out ++ kept.lines.waiting) (Some (record { line = kept.lines.judged + 1; kind = LineTooLong })) = follows-fault false kept.lines (judged_lines text) out line [] LineTooLong bad goes.follows in
     let moved : SoFar (text ++ part) (out ++ kept.lines.waiting) (Some (record { line = kept.lines.judged + 1; kind = LineTooLong })) = subst (λ l. ReadsLines false l (out ++ kept.lines.waiting) (Some (record { line = kept.lines.judged + 1; kind = LineTooLong }))) (sym lines) reads in

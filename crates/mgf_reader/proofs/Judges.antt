@@ -1,4 +1,4 @@
--- What some lines leave in a reader, and how one more line is judged behind them.
+-- For `Judges`: what some lines leave in a reader, and how one more line is judged behind them.
 use Rattle.std.proofs.Common.{◌≡◌, ℕ, ◌+◌, ◌≤◌, Bool, true, false, List, [], ◌∷◌, ◌++◌, length, Option, Some, None, refl, sym, ◌∙◌, ap, subst, append_assoc, append-nil, length-append, arith}
 use Rattle.std.specs.List.{AllByRecursion, flat_map}
 use Rattle.std.proofs.lemmas.List.Concat.{flat_map-append}
@@ -6,16 +6,16 @@ use Rattle.mgf_reader.specs.declared.fault.MgfKind.{MgfKind}
 use Rattle.mgf_reader.specs.declared.fault.MgfKind.TheVariants.{OpenBlock}
 use Rattle.mgf_reader.specs.declared.fault.MgfFault.{MgfFault}
 use Rattle.mgf_reader.specs.Spectrum.{SpectrumValue}
-use Rattle.mgf_reader.specs.Form.{Form, begin, end, form_of}
-use Rattle.mgf_reader.specs.Grammar.{most_peaks, fault_outside, fault_inside, peak_in, peaks_of, IsInside, IsBody, Piece, outside, block, piece_lines, IsPiece, spectrum_of, spectra_of, Rest, nothing, stray, refused, open_block, ReadsLines}
+use Rattle.mgf_reader.specs.LineForm.{LineForm, begin, end, form_of}
+use Rattle.mgf_reader.specs.Grammar.{greatest_peaks_of_a_block, fault_outside, fault_inside, peak_in, peaks_of, IsInside, IsBlockBody, Piece, outside, block, piece_lines, IsPiece, spectrum_of, spectra_of, Rest, nothing, stray, refused, open_block, ReadsLines}
 use Rattle.mgf_reader.specs.Stands.{Defaults, defaults_of, outside_lines, block_of, answer_of}
-use Rattle.mgf_reader.specs.Judging.{set_by, block_with, block_after, Judged, fault_behind, left_outside, left_inside, left_behind, counted, end_of}
-use Rattle.mgf_reader.proofs.OneMore.{all-append, defaults-push, peaks_of-length, peaks_of-push, inside-right, inside-room, outside_lines-append, spectra_of-append}
+use Rattle.mgf_reader.specs.inside.Judging.{set_by, block_with, block_after, Judged, fault_behind, left_outside, left_inside, left_behind, counted, end_of}
+use Rattle.mgf_reader.proofs.SpectraOf.{all-append, defaults-push, peaks_of-length, peaks_of-push, inside-right, inside-room, outside_lines-append, spectra_of-append}
 
 -- the lines of a block that was begun, or none
 abbrev pub IsOpen : List (List ℕ) → Type 0
 IsOpen [] = Unit {0}
-IsOpen (first ∷ body) = (form_of first ≡ begin) × IsBody body
+IsOpen (first ∷ body) = (form_of first ≡ begin) × IsBlockBody body
 
 -- what some lines leave that are all right so far
 pub record Follows (now : Judged) (lines : List (List ℕ)) (out : List SpectrumValue) : Type 0 where
@@ -34,7 +34,7 @@ whole-push : (pieces : List Piece) (piece : Piece) → flat_map piece_lines (pie
 whole-push pieces piece = flat_map-append piece_lines pieces (piece ∷ []) ∙ ap (λ lines. flat_map piece_lines pieces ++ lines) (append-nil (piece_lines piece))
 
 -- a line outside is one piece more
-follows-outside : (waiting : List SpectrumValue) (number : ℕ) (set : Defaults) (lines : List (List ℕ)) (out : List SpectrumValue) (line : List ℕ) (form : Form) (pieces : List Piece)
+follows-outside : (waiting : List SpectrumValue) (number : ℕ) (set : Defaults) (lines : List (List ℕ)) (out : List SpectrumValue) (line : List ℕ) (form : LineForm) (pieces : List Piece)
     → form_of line ≡ form → fault_outside form ≡ None → (form ≡ begin → ⊥)
     → lines ≡ flat_map piece_lines pieces ++ [] → AllByRecursion IsPiece pieces → out ++ waiting ≡ spectra_of [] 1 pieces
     → number ≡ length lines → set ≡ defaults_of (outside_lines pieces)
@@ -74,9 +74,9 @@ follows-begin waiting number set lines out line pieces is whole right spectra ju
     }
 
 -- a line in a block is one more of its lines
-follows-inside : (waiting : List SpectrumValue) (number : ℕ) (set : Defaults) (now : SpectrumValue) (lines : List (List ℕ)) (out : List SpectrumValue) (line : List ℕ) (form : Form) (pieces : List Piece) (first : List ℕ) (body : List (List ℕ))
+follows-inside : (waiting : List SpectrumValue) (number : ℕ) (set : Defaults) (now : SpectrumValue) (lines : List (List ℕ)) (out : List SpectrumValue) (line : List ℕ) (form : LineForm) (pieces : List Piece) (first : List ℕ) (body : List (List ℕ))
     → form_of line ≡ form → fault_inside (length now.peaks) form ≡ None → (form ≡ end → ⊥)
-    → form_of first ≡ begin → IsBody body
+    → form_of first ≡ begin → IsBlockBody body
     → lines ≡ flat_map piece_lines pieces ++ first ∷ body → AllByRecursion IsPiece pieces → out ++ waiting ≡ spectra_of [] 1 pieces
     → number ≡ length lines → set ≡ defaults_of (outside_lines pieces)
     → now ≡ spectrum_of (outside_lines pieces) (1 + length (flat_map piece_lines pieces)) body
@@ -100,7 +100,7 @@ follows-inside waiting number set now lines out line form pieces first body is s
         begins,
         record {
           lines = all-append IsInside body (line ∷ []) is_body.lines (record { right = ap (fault_inside 0) is ∙ inside-right (length now.peaks) form sound; no_end = λ e. no_end (sym is ∙ e) }, tt);
-          peaks = subst (λ (n : ℕ). n ≤ most_peaks) (sym (ap length (peaks_of-push 0 body line form is) ∙ length-append (peaks_of 0 body) (peak_in (0 + length body) form))) (inside-room (length (peaks_of 0 body)) (0 + length body) form sound_here is_body.peaks);
+          peaks = subst (λ (n : ℕ). n ≤ greatest_peaks_of_a_block) (sym (ap length (peaks_of-push 0 body line form is) ∙ length-append (peaks_of 0 body) (peak_in (0 + length body) form))) (inside-room (length (peaks_of 0 body)) (0 + length body) form sound_here is_body.peaks);
         },
       );
       judged = omega (arith, judged, length-append lines (line ∷ []));
@@ -111,7 +111,7 @@ follows-inside waiting number set now lines out line form pieces first body is s
 -- an end line makes a piece of the block
 follows-end : (waiting : List SpectrumValue) (number : ℕ) (set : Defaults) (now : SpectrumValue) (lines : List (List ℕ)) (out : List SpectrumValue) (line : List ℕ) (pieces : List Piece) (first : List ℕ) (body : List (List ℕ))
     → form_of line ≡ end
-    → form_of first ≡ begin → IsBody body
+    → form_of first ≡ begin → IsBlockBody body
     → lines ≡ flat_map piece_lines pieces ++ first ∷ body → AllByRecursion IsPiece pieces → out ++ waiting ≡ spectra_of [] 1 pieces
     → number ≡ length lines → set ≡ defaults_of (outside_lines pieces)
     → now ≡ spectrum_of (outside_lines pieces) (1 + length (flat_map piece_lines pieces)) body
@@ -131,7 +131,7 @@ follows-end waiting number set now lines out line pieces first body is begins is
     }
 
 -- a line outside that is right, whatever its form
-next-outside : (waiting : List SpectrumValue) (number : ℕ) (set : Defaults) (lines : List (List ℕ)) (out : List SpectrumValue) (line : List ℕ) (form : Form) (pieces : List Piece)
+next-outside : (waiting : List SpectrumValue) (number : ℕ) (set : Defaults) (lines : List (List ℕ)) (out : List SpectrumValue) (line : List ℕ) (form : LineForm) (pieces : List Piece)
     → form_of line ≡ form → fault_outside form ≡ None
     → lines ≡ flat_map piece_lines pieces ++ [] → AllByRecursion IsPiece pieces → out ++ waiting ≡ spectra_of [] 1 pieces
     → number ≡ length lines → set ≡ defaults_of (outside_lines pieces)
@@ -140,9 +140,9 @@ next-outside waiting number set lines out line begin pieces is sound whole right
 next-outside waiting number set lines out line form pieces is sound whole right spectra judged defaults = follows-outside waiting number set lines out line form pieces is sound (λ e. cc) whole right spectra judged defaults
 
 -- a line in a block that is right, whatever its form
-next-inside : (waiting : List SpectrumValue) (number : ℕ) (set : Defaults) (now : SpectrumValue) (lines : List (List ℕ)) (out : List SpectrumValue) (line : List ℕ) (form : Form) (pieces : List Piece) (first : List ℕ) (body : List (List ℕ))
+next-inside : (waiting : List SpectrumValue) (number : ℕ) (set : Defaults) (now : SpectrumValue) (lines : List (List ℕ)) (out : List SpectrumValue) (line : List ℕ) (form : LineForm) (pieces : List Piece) (first : List ℕ) (body : List (List ℕ))
     → form_of line ≡ form → fault_inside (length now.peaks) form ≡ None
-    → form_of first ≡ begin → IsBody body
+    → form_of first ≡ begin → IsBlockBody body
     → lines ≡ flat_map piece_lines pieces ++ first ∷ body → AllByRecursion IsPiece pieces → out ++ waiting ≡ spectra_of [] 1 pieces
     → number ≡ length lines → set ≡ defaults_of (outside_lines pieces)
     → now ≡ spectrum_of (outside_lines pieces) (1 + length (flat_map piece_lines pieces)) body
@@ -150,7 +150,7 @@ next-inside : (waiting : List SpectrumValue) (number : ℕ) (set : Defaults) (no
 next-inside waiting number set now lines out line end pieces first body is sound begins is_body whole right spectra judged defaults block_is = follows-end waiting number set now lines out line pieces first body is begins is_body whole right spectra judged defaults block_is
 next-inside waiting number set now lines out line form pieces first body is sound begins is_body whole right spectra judged defaults block_is = follows-inside waiting number set now lines out line form pieces first body is sound (λ e. cc) begins is_body whole right spectra judged defaults block_is
 
-next-by : (waiting : List SpectrumValue) (number : ℕ) (set : Defaults) (block : Option SpectrumValue) (lines : List (List ℕ)) (out : List SpectrumValue) (line : List ℕ) (form : Form) (pieces : List Piece) (rest : List (List ℕ))
+next-by : (waiting : List SpectrumValue) (number : ℕ) (set : Defaults) (block : Option SpectrumValue) (lines : List (List ℕ)) (out : List SpectrumValue) (line : List ℕ) (form : LineForm) (pieces : List Piece) (rest : List (List ℕ))
     → form_of line ≡ form → fault_behind (record { waiting = waiting; judged = number; defaults = set; block = block }) form ≡ None
     → IsOpen rest
     → lines ≡ flat_map piece_lines pieces ++ rest → AllByRecursion IsPiece pieces → out ++ waiting ≡ spectra_of [] 1 pieces

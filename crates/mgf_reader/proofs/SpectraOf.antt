@@ -1,4 +1,4 @@
--- What one more line changes in what is defined over lists of lines.
+-- For `spectra_of`: what one more line changes in what is defined over lists of lines.
 use Rattle.std.proofs.Common.{◌≡◌, ℕ, ◌+◌, ◌≤◌, Bool, true, false, nat_le, if◌then◌else◌, List, [], ◌∷◌, ◌++◌, length, Option, Some, None, is_none, refl, sym, ◌∙◌, ap, append_assoc, append-nil, length-append, add-zero, arith}
 use Rattle.std.specs.Option.{option_to_list, option_and_then}
 use Rattle.std.specs.List.{AllByRecursion, flat_map}
@@ -6,12 +6,12 @@ use borrow.Author.Tests.{leb-false}
 use Rattle.mgf_reader.specs.declared.fault.MgfKind.TheVariants.{BadPeak, TooManyPeaks}
 use Rattle.fixed_mass.specs.Units.{readable_units}
 use Rattle.mgf_reader.specs.Spectrum.{PeakValue}
-use Rattle.mgf_reader.specs.Form.{Form, peak, form_of}
+use Rattle.mgf_reader.specs.LineForm.{LineForm, peak, form_of}
 use Rattle.mgf_reader.specs.Parameter.{Key, title, precursor, charge, value_in, last_value, title_of, precursor_of, charge_list_of}
 use Rattle.mgf_reader.specs.PeakLine.{peak_of, intensity_of}
-use Rattle.mgf_reader.specs.Grammar.{most_peaks, fault_inside, peak_in, peaks_of, Piece, outside, block, piece_lines, spectrum_of, spectra_of}
+use Rattle.mgf_reader.specs.Grammar.{greatest_peaks_of_a_block, fault_inside, peak_in, peaks_of, Piece, outside, block, piece_lines, spectrum_of, spectra_of}
 use Rattle.mgf_reader.specs.Stands.{defaults_of, outside_lines}
-use Rattle.mgf_reader.specs.Judging.{title_after, precursor_after, charges_after, set_by}
+use Rattle.mgf_reader.specs.inside.Judging.{title_after, precursor_after, charges_after, set_by}
 
 -- a fact of each element of two lists, joined and parted
 pub all-append : {A : Type 0} (P : A → Type 0) (xs ys : List A) → AllByRecursion P xs → AllByRecursion P ys → AllByRecursion P (xs ++ ys)
@@ -44,7 +44,7 @@ charges-push lines line None is = rw (last_value-stays charge lines line is) ref
 charges-push lines line (Some value) is = rw (last_value-push charge lines line value is) refl
 
 -- what some lines set, with one line more
-pub defaults-push : (lines : List (List ℕ)) (line : List ℕ) (form : Form) → form_of line ≡ form → defaults_of (lines ++ line ∷ []) ≡ set_by (defaults_of lines) form
+pub defaults-push : (lines : List (List ℕ)) (line : List ℕ) (form : LineForm) → form_of line ≡ form → defaults_of (lines ++ line ∷ []) ≡ set_by (defaults_of lines) form
 defaults-push lines line form is =
     let a = title-push lines line (value_in title form) (ap (value_in title) is) in
     let b = precursor-push lines line (value_in precursor form) (ap (value_in precursor) is) in
@@ -64,7 +64,7 @@ peak_of-length : (m n : ℕ) (fields : List (List ℕ)) → length (option_to_li
 peak_of-length m n [] = refl
 peak_of-length m n (field ∷ fields) = peak_from-length m n (readable_units 7 field) (intensity_of fields)
 
-peak_in-length : (m n : ℕ) (form : Form) → length (peak_in m form) ≡ length (peak_in n form)
+peak_in-length : (m n : ℕ) (form : LineForm) → length (peak_in m form) ≡ length (peak_in n form)
 peak_in-length m n (peak fields) = peak_of-length m n fields
 peak_in-length m n form = refl
 
@@ -74,7 +74,7 @@ peaks_of-length m n (line ∷ lines) =
     length-append (peak_in m (form_of line)) (peaks_of (m + 1) lines) ∙ cc (peak_in-length m n (form_of line), peaks_of-length (m + 1) (n + 1) lines) ∙ sym (length-append (peak_in n (form_of line)) (peaks_of (n + 1) lines))
 
 -- the peaks of some lines and of one more
-pub peaks_of-push : (number : ℕ) (lines : List (List ℕ)) (line : List ℕ) (form : Form) → form_of line ≡ form → peaks_of number (lines ++ line ∷ []) ≡ peaks_of number lines ++ peak_in (number + length lines) form
+pub peaks_of-push : (number : ℕ) (lines : List (List ℕ)) (line : List ℕ) (form : LineForm) → form_of line ≡ form → peaks_of number (lines ++ line ∷ []) ≡ peaks_of number lines ++ peak_in (number + length lines) form
 peaks_of-push number [] line form is = append-nil (peak_in number (form_of line)) ∙ ap (peak_in number) is ∙ ap (λ n. peak_in n form) (sym (add-zero number))
 peaks_of-push number (other ∷ lines) line form is =
     let more : number + 1 + length lines ≡ number + length (other ∷ lines) = omega arith in
@@ -86,18 +86,18 @@ choose-none true full a b is = cc
 choose-none false true a b is = cc
 choose-none false false a b is = (refl, refl)
 
-pub inside-right : (peaks : ℕ) (form : Form) → fault_inside peaks form ≡ None → fault_inside 0 form ≡ None
-inside-right peaks (peak fields) right = rw (choose-none (is_none (peak_of 0 fields)) (nat_le most_peaks peaks) BadPeak TooManyPeaks right).0 refl
+pub inside-right : (peaks : ℕ) (form : LineForm) → fault_inside peaks form ≡ None → fault_inside 0 form ≡ None
+inside-right peaks (peak fields) right = rw (choose-none (is_none (peak_of 0 fields)) (nat_le greatest_peaks_of_a_block peaks) BadPeak TooManyPeaks right).0 refl
 inside-right peaks form right = right
 
 option-length : {A : Type 0} (option : Option A) → length (option_to_list option) ≤ 1
 option-length None = omega arith
 option-length (Some a) = omega arith
 
-pub inside-room : (peaks number : ℕ) (form : Form) → fault_inside peaks form ≡ None → peaks ≤ most_peaks → peaks + length (peak_in number form) ≤ most_peaks
+pub inside-room : (peaks number : ℕ) (form : LineForm) → fault_inside peaks form ≡ None → peaks ≤ greatest_peaks_of_a_block → peaks + length (peak_in number form) ≤ greatest_peaks_of_a_block
 inside-room peaks number (peak fields) right few =
-    let room : nat_le most_peaks peaks ≡ false = (choose-none (is_none (peak_of 0 fields)) (nat_le most_peaks peaks) BadPeak TooManyPeaks right).1 in
-    omega (arith, leb-false most_peaks peaks room, option-length (peak_of number fields))
+    let room : nat_le greatest_peaks_of_a_block peaks ≡ false = (choose-none (is_none (peak_of 0 fields)) (nat_le greatest_peaks_of_a_block peaks) BadPeak TooManyPeaks right).1 in
+    omega (arith, leb-false greatest_peaks_of_a_block peaks room, option-length (peak_of number fields))
 inside-room peaks number form right few = omega arith
 
 -- the lines outside among some pieces and some more
