@@ -1,6 +1,6 @@
 //! A reader of a text that comes in pieces of any size. It keeps one unfinished line, one open block, and the spectra that
 //! wait.
-ghost use Rattle.std.specs.Prelude.{◌≡◌, ◌≢◌, ◌≤◌, ◌+◌, ◌++◌, [], ◌∷◌, List, ℕ, false, true, None, Some, Ok, Err, length, IfOk, OnErr, OnOk, MatchOption};
+ghost use Rattle.std.specs.Prelude.{◌≡◌, ◌≢◌, ◌≤◌, ◌+◌, ◌-◌, ◌++◌, [], ◌∷◌, List, ℕ, false, true, None, Some, Ok, Err, length, IfOk, OnErr, OnOk, MatchOption};
 ghost use Rattle.std.specs.Option.{option_to_list};
 ghost use Rattle.mgf_reader.specs.Spectrum.{SpectrumValue};
 ghost use Rattle.mgf_reader.specs.declared.fault.FeedFault.{FeedFault};
@@ -60,6 +60,13 @@ impl Reader {
             failed: None,
             cutter: Cutter::new(alloc),
         })
+    }
+
+    /// How many bytes more it may be fed.
+    pub fn room(&self) -> usize
+        ensures { result ≡ greatest_fed - self.now.fed }
+    {
+        GREATEST_FED - self.fed
     }
 
     /// Takes the next piece of the text in. Answers the first line of the text so far that has no place. From then on, and

@@ -257,6 +257,7 @@ fn refuses_a_long_line_before_its_end(rt: HostRuntime) -> Result<(), Fail> {
     let mut reader = Reader::new(rt.alloc())?;
     assert!(rt; text.len() < GREATEST_FED - 1);
     assert_eq!(rt; reader.feed(&text), Ok(()));
+    assert_eq!(rt; reader.room(), GREATEST_FED - text.len());
     let fault = FeedFault::Mgf(MgfFault {
         line: 2,
         kind: MgfKind::LineTooLong,
@@ -301,6 +302,32 @@ fn bounds_the_peaks_of_a_block(rt: HostRuntime) -> Result<(), Fail> {
             .ends_with(" 10000000/1000000@100001\n100003 StrayEnd")
     );
     Ok(())
+}
+
+#[test]
+fn names_each_kind(rt: HostRuntime) {
+    for (number, word, kind) in [
+        (1, "nested-begin", MgfKind::NestedBegin),
+        (2, "stray-end", MgfKind::StrayEnd),
+        (3, "open-block", MgfKind::OpenBlock),
+        (4, "peak-outside", MgfKind::PeakOutside),
+        (5, "bad-peak", MgfKind::BadPeak),
+        (6, "bad-precursor", MgfKind::BadPrecursor),
+        (7, "bad-charge", MgfKind::BadCharge),
+        (8, "no-form", MgfKind::NoForm),
+        (9, "line-too-long", MgfKind::LineTooLong),
+        (10, "too-many-peaks", MgfKind::TooManyPeaks),
+    ] {
+        assert_eq!(rt; kind.number(), number);
+        assert_eq!(rt; kind.text(), word);
+        assert_eq!(rt; MgfKind::of_number(number), Some(kind));
+        assert_eq!(rt; MgfKind::of_text(word.as_bytes()), Some(kind));
+    }
+    assert_eq!(rt; MgfKind::of_number(0), None);
+    assert_eq!(rt; MgfKind::of_number(11), None);
+    assert_eq!(rt; MgfKind::of_text(b""), None);
+    assert_eq!(rt; MgfKind::of_text(b"Open-Block"), None);
+    assert_eq!(rt; MgfKind::of_text(b"open-block "), None);
 }
 
 #[test]
