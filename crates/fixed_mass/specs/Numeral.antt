@@ -8,6 +8,7 @@ use Rattle.std.specs.Str.Parse.{without_leading_plus, without_leading_sign, star
 abbrev pub is_mark : ℕ → Bool
 is_mark byte = byte == 101 || byte == 69
 
+-- `.`
 abbrev pub is_point : ℕ → Bool
 is_point byte = byte == 46
 
@@ -15,10 +16,11 @@ is_point byte = byte == 46
 abbrev pub significand_of : List ℕ → List ℕ
 significand_of text = without_leading_plus (before_first is_mark text)
 
--- what stands before the point, and what stands behind it; where there is no point, all of it and nothing
+-- what stands before the point, or all of it where there is none
 abbrev pub whole_of : List ℕ → List ℕ
 whole_of text = before_first is_point (significand_of text)
 
+-- what stands behind the point, or nothing where there is none
 abbrev pub fraction_of : List ℕ → List ℕ
 fraction_of text = after_first is_point (significand_of text)
 
@@ -44,15 +46,18 @@ is_exponent text = not (list_any is_mark text) || is_digits (without_leading_sig
 unfoldable pub is_numeral : List ℕ → Bool
 is_numeral text = is_digits (whole_of text ++ fraction_of text) && is_exponent text
 
--- by how many places an exponent raises the digits, and by how many it lowers them
+-- by how many places an exponent raises the digits
 abbrev pub raise_by : List ℕ → ℕ
 raise_by exponent = if starts_with_minus exponent then 0 else digits_value 10 (without_leading_sign exponent)
 
+-- by how many places an exponent lowers the digits
 abbrev pub lower_by : List ℕ → ℕ
 lower_by exponent = if starts_with_minus exponent then digits_value 10 (without_leading_sign exponent) else 0
 
+-- by how many places the exponent of a text raises its digits
 abbrev pub raise_of : List ℕ → ℕ
 raise_of text = raise_by (exponent_of text)
 
+-- by how many places the exponent of a text lowers its digits
 abbrev pub lower_of : List ℕ → ℕ
 lower_of text = lower_by (exponent_of text)

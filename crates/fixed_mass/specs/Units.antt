@@ -8,6 +8,7 @@ use Rattle.fixed_mass.specs.Numeral.{whole_of, fraction_of, raise_of, lower_of, 
 abbrev pub numerator_of : ℕ → List ℕ → ℕ
 numerator_of scale text = digits_value 10 (whole_of text ++ fraction_of text) * 10 ^ (scale + raise_of text)
 
+-- its lower part, which is never 0
 abbrev pub denominator_of : List ℕ → ℕ
 denominator_of text = 10 ^ (length (fraction_of text) + lower_of text)
 

@@ -28,7 +28,8 @@ pub enum NumeralFault {
     OutOfRange,
 }
 
-/// The value of a decimal numeral in units of 10^-scale, of a scale of at most 9, rounded to whole units, half a unit up.
+/// The value of a decimal numeral in units of 10^-scale, of a scale of at most 9, rounded to whole units, half a unit
+/// up.
 pub fn read_units(text: &[u8], scale: u8) -> Result<u64, NumeralFault>
     requires { scale ≤ greatest_scale }
     ensures units { result_ok result ≡ readable_units scale text.now }
@@ -143,6 +144,7 @@ mod tests {
     use super::*;
     use NumeralFault::{NotANumeral, OutOfRange, TooLong};
 
+    /// The greatest number of units.
     const GREATEST: u64 = 1_000_000_000_000_000_000;
 
     #[test]

@@ -1,5 +1,5 @@
--- The grammar of a text as a relation on its whole list of lines: lines outside and blocks in any order, and then a rest.
--- The format is the Mascot generic format as Matrix Science describes it; the leniencies and the refusals are this
+-- The grammar of a text as a relation on its whole list of lines: lines outside and blocks in any order, and then a
+-- rest. The format is the Mascot generic format as Matrix Science describes it; the leniencies and the refusals are this
 -- project's own.
 use Rattle.std.specs.Prelude.{◌≡◌, ◌+◌, ◌≤◌, ◌++◌, ℕ, List, [], ◌∷◌, Bool, true, false, nat_le, if◌then◌else◌, Option, Some, None, is_none, length}
 use Rattle.std.specs.Option.{option_to_list}
@@ -68,16 +68,18 @@ pub data Piece : Type 0 where
   outside : List ℕ → Piece
   block : List ℕ → List (List ℕ) → List ℕ → Piece
 
+-- the lines of a piece
 abbrev pub piece_lines : Piece → List (List ℕ)
 piece_lines (outside line) = line ∷ []
 piece_lines (block first body last) = first ∷ (body ++ last ∷ [])
 
+-- a piece that is right
 abbrev pub IsPiece : Piece → Type 0
 IsPiece (outside line) = IsOutside line
 IsPiece (block first body last) = (form_of first ≡ begin) × IsBlockBody body × (form_of last ≡ end)
 
--- The spectrum of a block, of which the begin line has this number. A key's value is that of the block's own last line of
--- the key, or else of the last line outside before it.
+-- The spectrum of a block, of which the begin line has this number. A key's value is that of the block's own last line
+-- of the key, or else of the last line outside before it.
 abbrev pub spectrum_of : List (List ℕ) → ℕ → List (List ℕ) → SpectrumValue
 spectrum_of before number body = record {
   line = number;
@@ -94,9 +96,9 @@ spectra_of before number (outside line ∷ pieces) = spectra_of (before ++ line 
 spectra_of before number (block first body last ∷ pieces) =
     spectrum_of before number body ∷ spectra_of before (number + 2 + length body) pieces
 
--- The rest of a text, of which the first line has this number, and the fault that it leads to: nothing is left; a line has
--- no place outside; a line has no place in a block that was begun; or a block is still open, which is a fault where the
--- text is at its end.
+-- The rest of a text, of which the first line has this number, and the fault that it leads to: nothing is left; a line
+-- has no place outside; a line has no place in a block that was begun; or a block is still open, which is a fault where
+-- the text is at its end.
 pub data Rest (at_end : Bool) (number : ℕ) (rest : List (List ℕ)) (fault : Option MgfFault) : Type 0 where
   nothing : rest ≡ [] → fault ≡ None → Rest at_end number rest fault
   stray : (line : List ℕ) (more : List (List ℕ)) (kind : MgfKind) → rest ≡ line ∷ more

@@ -25,10 +25,10 @@ defaults_of lines = record { title = title_of lines; precursor = precursor_of li
 abbrev pub greatest_fed : ℕ
 greatest_fed = 67108865
 
--- What a reader holds: how many bytes were fed, whether an end answered Ok, the spectra that wait, why it takes nothing in
--- any more, the bytes since the last line feed, how many lines were judged, the defaults, and the block that is open, as a
--- spectrum so far. The unfinished line is kept as it was fed, a byte order mark at the start included, which is left out
--- when the line is judged: so a reader needs no further sign of the mark.
+-- What a reader holds: how many bytes were fed, whether an end answered Ok, the spectra that wait, why it takes nothing
+-- in any more, the bytes since the last line feed, how many lines were judged, the defaults, and the block that is open,
+-- as a spectrum so far. The unfinished line is kept as it was fed, a byte order mark at the start included, which is left
+-- out when the line is judged: so a reader needs no further sign of the mark.
 pub record ReaderValue : Type 0 where
   pub fed : ℕ
   pub ended : Bool
@@ -57,8 +57,8 @@ pub record IsLeft (reader : ReaderValue) (text : List ℕ) (pieces : List Piece)
   pub defaults : reader.defaults ≡ defaults_of (outside_lines pieces)
   pub open_block : reader.block ≡ block_of (outside_lines pieces) (1 + length (flat_map piece_lines pieces)) rest
 
--- A reader stands for a text and the spectra that were handed out: these and the ones that wait are those of the text so
--- far, its fault is that of the text so far, and where there is none it holds what the text leaves.
+-- A reader stands for a text and the spectra that were handed out: these and the ones that wait are those of the text
+-- so far, its fault is that of the text so far, and where there is none it holds what the text leaves.
 pub record Stands (reader : ReaderValue) (text : List ℕ) (out : List SpectrumValue) : Type 0 where
   pub pieces : List Piece
   pub rest : List (List ℕ)

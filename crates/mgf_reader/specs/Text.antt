@@ -37,7 +37,8 @@ line_if_any (byte ∷ bytes) = (byte ∷ bytes) ∷ []
 abbrev pub lines_of : List ℕ → List (List ℕ)
 lines_of text = ended_lines (without_mark text) ++ line_if_any (unfinished_line (without_mark text))
 
--- The lines that are judged while a text may still go on: those that are ended, and an unfinished one once it is too long.
+-- The lines that are judged while a text may still go on: those that are ended, and an unfinished one once it is too
+-- long.
 abbrev pub judged_lines : List ℕ → List (List ℕ)
 judged_lines text = ended_lines (without_mark text) ++ (
     if nat_lt greatest_line (length (unfinished_line (without_mark text)))

@@ -42,8 +42,8 @@ pub fn line_of(bytes: &[u8]) -> Line<'_>
     form_by_first(trim(ByteClass::Edge, bytes))
 }
 
-/// The form of a line without what is dropped at its ends. Its first byte tells it, but for the lines that begin as a name
-/// does. Most lines are peaks, so these come first.
+/// The form of a line without what is dropped at its ends. Its first byte tells it, but for the lines that begin as a
+/// name does. Most lines are peaks, so these come first.
 fn form_by_first(line: &[u8]) -> Line<'_>
     requires { is_blank (slice_index line.now 0) ≡ false }
     ensures { form_of_line result ≡ form_within line.now }

@@ -1,5 +1,5 @@
-//! A reader of a text that comes in pieces of any size. It keeps one unfinished line, one open block, and the spectra that
-//! wait.
+//! A reader of a text that comes in pieces of any size. It keeps one unfinished line, one open block, and the spectra
+//! that wait.
 ghost use Rattle.std.specs.Prelude.{◌≡◌, ◌≢◌, ◌≤◌, ◌+◌, ◌-◌, ◌++◌, [], ◌∷◌, List, ℕ, false, true, None, Some, Ok, Err, length, IfOk, OnErr, OnOk, MatchOption};
 ghost use Rattle.std.specs.Option.{option_to_list};
 ghost use Rattle.mgf_reader.specs.Spectrum.{SpectrumValue};
@@ -69,8 +69,8 @@ impl Reader {
         GREATEST_FED - self.fed
     }
 
-    /// Takes the next piece of the text in. Answers the first line of the text so far that has no place. From then on, and
-    /// after want of memory, every later call answers the same.
+    /// Takes the next piece of the text in. Answers the first line of the text so far that has no place. From then on,
+    /// and after want of memory, every later call answers the same.
     pub fn feed(&mut self, piece: &[u8]) -> Result<(), FeedFault>
         requires open { self.old.ended ≡ false }
         requires room { self.old.fed + length piece.now ≤ greatest_fed }
@@ -117,8 +117,8 @@ impl Reader {
         self.cutter.next()
     }
 
-    /// Ends the text: what stands after the last line feed is a line. Answers the first line that has no place, or the block
-    /// that is still open.
+    /// Ends the text: what stands after the last line feed is a line. Answers the first line that has no place, or the
+    /// block that is still open.
     pub fn end(&mut self) -> Result<(), FeedFault>
         requires { self.old.ended ≡ false }
 
