@@ -1,13 +1,18 @@
--- What the calls of a desk do to its slots, and which fault has which cause.
+-- What the calls of a desk do to its state, and which fault has which cause.
 use Rattle.std.specs.Prelude.{◌≡◌, ◌≤◌, ◌+◌, ◌-◌, ◌^◌, ◌++◌, ℕ, Bool, List, [], take, min, Option, Some, None, Result, Ok, Err, IfSome, IsErrOf}
 use Rattle.frag_io.specs.declared.desk.Slot.{Slot}
 use Rattle.frag_io.specs.declared.desk.DeskFault.{DeskFault}
 use Rattle.frag_io.specs.declared.desk.DeskFault.TheVariants.{Failed}
+use Rattle.frag_io.specs.DeskState.{DeskState}
 use Rattle.frag_io.specs.Slot.{SameBut, Same, Gains}
 
--- A fault is counted between two readings of a slot's count: the count rose, or stands at the last value of a u64.
-abbrev pub IsCounted : ℕ → ℕ → Type 0
-IsCounted before now = min (before + 1) (2 ^ 64 - 1) ≤ now
+-- A fault of a slot is counted between two moments: its count rose, or stands at the last value of a u64.
+abbrev pub IsCounted : Slot → DeskState → DeskState → Type 0
+IsCounted slot before now = min (before.faults slot + 1) (2 ^ 64 - 1) ≤ now.faults slot
+
+-- Where the desk tells the name under which a slot was begun, it is this one.
+abbrev pub IsNamed : Slot → List ℕ → DeskState → Type 0
+IsNamed slot name state = IfSome (state.names slot) (λ told. told ≡ name)
 
 -- where a slot's bytes are told, there are none
 abbrev pub IsEmpty : Option (List ℕ) → Type 0
@@ -18,12 +23,14 @@ abbrev pub appended : Option (List ℕ) → List ℕ → Option (List ℕ)
 appended None bytes = None
 appended (Some told) bytes = Some (told ++ bytes)
 
--- What no call on a slot changes: the counts never fall, each name gives what it gave, and the other slots keep their bytes.
-pub record Keeps {D : Type 0} (gives : D → List ℕ → Option (List ℕ)) (left written : D → Slot → Option (List ℕ)) (faults : D → Slot → ℕ) (own : Slot) (before now : D) : Type 0 where
-  pub names : (name : List ℕ) → gives now name ≡ gives before name
-  pub others_left : SameBut own (left before) (left now)
-  pub others_written : SameBut own (written before) (written now)
-  pub counts : (slot : Slot) → faults before slot ≤ faults now slot
+-- What no call on a slot changes: each name gives what it gave, the other slots keep their names and their bytes, and
+-- no count falls.
+pub record Keeps (own : Slot) (before now : DeskState) : Type 0 where
+  pub gives : (name : List ℕ) → now.gives name ≡ before.gives name
+  pub others_named : SameBut own before.names now.names
+  pub others_left : SameBut own before.left now.left
+  pub others_written : SameBut own before.written now.written
+  pub counts : (slot : Slot) → before.faults slot ≤ now.faults slot
 
 -- A call that answers Ok adds its slot to a set of slots; one that does not leaves the set.
 abbrev pub AddsOnOk : {T : Type 0} → Slot → (Slot → Bool) → (Slot → Bool) → Result T DeskFault → Type 0
@@ -31,8 +38,8 @@ AddsOnOk own before now (Ok _) = Gains own before now
 AddsOnOk own before now (Err _) = Same before now
 
 -- `Failed` is answered only where a fault of the slot is counted in the call.
-abbrev pub HasCause : {T : Type 0} → ℕ → ℕ → Result T DeskFault → Type 0
-HasCause before now result = IsErrOf result Failed → IsCounted before now
+abbrev pub HasCause : {T : Type 0} → Slot → DeskState → DeskState → Result T DeskFault → Type 0
+HasCause slot before now result = IsErrOf result Failed → IsCounted slot before now
 
 -- A read moved the first n of the bytes that were left to the front of the buffer.
 abbrev pub Moves : Option (List ℕ) → Option (List ℕ) → List ℕ → ℕ → Type 0

@@ -1,6 +1,7 @@
 pub mod BySlot
 pub mod Count
 pub mod Desk
+pub mod DeskState
 pub mod Failing
 pub mod Memory
 pub mod Outlets

@@ -21,6 +21,7 @@ pub struct MemoryDesk {
     plan: Plan,
     piece: usize,
     stages: BySlot<Stage>,
+    names: BySlot<Option<String>>,
     faults: BySlot<Count>,
     report: Vec<u8>,
     cert_out: Vec<u8>,
@@ -28,7 +29,7 @@ pub struct MemoryDesk {
 }
 
 impl MemoryDesk {
-    ghost use Rattle.frag_io.specs.Memory.{bytes_at, is_begun_at, is_finished_at, file_of, told_written, faults_of, piece_of, failing_of, calls_made};
+    ghost use Rattle.frag_io.specs.Memory.{bytes_at, state_of, piece_of, failing_of, calls_made};
 
     /// A desk over these files, of which the first of a name counts. These calls fail; the others move at most
     /// `piece` bytes each. No slot is begun.
@@ -39,12 +40,11 @@ impl MemoryDesk {
         piece: usize,
     ) -> MemoryDesk
         requires { 0 < piece }
-        ensures unbegun { (slot : Slot) → ⟦<MemoryDesk as Desk>⟧.begun result slot ≡ false }
-        ensures unfinished { (slot : Slot) → ⟦<MemoryDesk as Desk>⟧.finished result slot ≡ false }
-        ensures empty { (slot : Slot) → ⟦<MemoryDesk as Desk>⟧.written result slot ≡ Some [] }
-        ensures faultless { (slot : Slot) → ⟦<MemoryDesk as Desk>⟧.faults result slot ≡ 0 }
-        ensures files { (name : List ℕ)
-            → ⟦<MemoryDesk as Desk>⟧.gives result name ≡ bytes_under files.items name }
+        ensures unbegun { (slot : Slot) → (state_of result).begun slot ≡ false }
+        ensures unfinished { (slot : Slot) → (state_of result).finished slot ≡ false }
+        ensures empty { (slot : Slot) → (state_of result).written slot ≡ Some [] }
+        ensures faultless { (slot : Slot) → (state_of result).faults slot ≡ 0 }
+        ensures files { (name : List ℕ) → (state_of result).gives name ≡ bytes_under files.items name }
         ensures failing { failing_of result ≡ failing.items }
         ensures uncalled { (kind : CallKind) → calls_made result kind ≡ 0 }
         ensures piece { piece_of result ≡ piece }
@@ -54,6 +54,7 @@ impl MemoryDesk {
             plan: Plan::new(failing),
             piece,
             stages: BySlot::of(Stage::Fresh),
+            names: BySlot::none(),
             faults: BySlot::of(Count::zero()),
             report: Vec::new(alloc),
             cert_out: Vec::new(alloc),
@@ -62,7 +63,7 @@ impl MemoryDesk {
 
     /// The bytes that were written to a slot.
     pub fn written(&self, slot: Slot) -> &[u8]
-        ensures { ⟦<MemoryDesk as Desk>⟧.written self.now slot ≡ Some result.now }
+        ensures { (state_of self.now).written slot ≡ Some result.now }
     {
         match (self.stages.at(slot), slot) {
             (Stage::Fresh, _) => &[],
@@ -74,7 +75,7 @@ impl MemoryDesk {
 
     /// How many faults of a slot were counted.
     pub fn faults(&self, slot: Slot) -> u64
-        ensures { result ≡ ⟦<MemoryDesk as Desk>⟧.faults self.now slot }
+        ensures { result ≡ (state_of self.now).faults slot }
     {
         self.faults.at(slot).value()
     }
@@ -133,21 +134,11 @@ impl MemoryDesk {
 
 impl Desk for MemoryDesk {
     ghost use Rattle.frag_io.specs.declared.desk.Slot.TheVariants.{Report};
-    ghost use Rattle.frag_io.specs.Desk.{IsEmpty, appended, Keeps, AddsOnOk, HasCause, Moves};
-    ghost use Rattle.frag_io.specs.Memory.{bytes_at, is_begun_at, is_finished_at, file_of, left_of, told_left, told_written, faults_of, piece_of, FailsNext, is_failed, Counts};
+    ghost use Rattle.frag_io.specs.Desk.{IsNamed, IsEmpty, appended, Keeps, AddsOnOk, HasCause, Moves};
+    ghost use Rattle.frag_io.specs.Memory.{bytes_at, state_of, left_of, piece_of, FailsNext, is_failed, Counts};
     ghost use Rattle.frag_io.specs.Stage.{finished_is_begun, fresh_is_empty};
 
-    ghost begun = { is_begun_at };
-
-    ghost finished = { is_finished_at };
-
-    ghost gives = { file_of };
-
-    ghost left = { told_left };
-
-    ghost written = { told_written };
-
-    ghost faults = { faults_of };
+    ghost state = { state_of };
 
     ghost finished_was_begun = { λ desk slot is. finished_is_begun (at desk.stages slot) is };
 
@@ -155,18 +146,18 @@ impl Desk for MemoryDesk {
 
     ghost counts_fit = { λ desk slot. (at desk.faults slot).fits };
 
-    fn begin(&mut self, _alloc: Global, slot: Slot, name: &str) -> Result<(), DeskFault>
-        requires fresh { is_begun_at self.old slot ≡ false }
+    fn begin(&mut self, alloc: Global, slot: Slot, name: &str) -> Result<(), DeskFault>
+        requires fresh { (state_of self.old).begun slot ≡ false }
         requires unnamed { slot ≡ Report → name.now ≡ [] }
-        ensures begun { AddsOnOk slot (is_begun_at self.old) (is_begun_at self.new) result }
-        ensures finished { Same (is_finished_at self.old) (is_finished_at self.new) }
-        ensures left { OnOk result (IsRead slot → told_left self.new slot ≡ file_of self.old name.now) }
-        ensures written { OnOk result (IsWritten slot → IsEmpty (told_written self.new slot)) }
-        ensures keeps { Keeps file_of told_left told_written faults_of slot self.old self.new }
-        ensures cause { HasCause (faults_of self.old slot) (faults_of self.new slot) result }
+        ensures begun { AddsOnOk slot (state_of self.old).begun (state_of self.new).begun result }
+        ensures finished { Same (state_of self.old).finished (state_of self.new).finished }
+        ensures named { OnOk result ((state_of self.new).names slot ≡ Some name.now) }
+        ensures left { OnOk result (IsRead slot → (state_of self.new).left slot ≡ (state_of self.old).gives name.now) }
+        ensures written { OnOk result (IsWritten slot → IsEmpty ((state_of self.new).written slot)) }
+        ensures keeps { Keeps slot (state_of self.old) (state_of self.new) }
+        ensures cause { HasCause slot (state_of self.old) (state_of self.new) result }
         ensures failed { (result ≡ Err DeskFault.Failed)
-            ↔ (FailsNext self.old CallKind.Begin ⊎ (IsRead slot × (file_of self.old name.now ≡ None))) }
-        ensures takes_no_memory { result ≢ Err DeskFault.OutOfMemory }
+            ↔ (FailsNext self.old CallKind.Begin ⊎ (IsRead slot × ((state_of self.old).gives name.now ≡ None))) }
         ensures counts { Counts CallKind.Begin slot (is_failed result) self.old self.new }
     {
         if self.is_due(CallKind::Begin) {
@@ -175,25 +166,30 @@ impl Desk for MemoryDesk {
         let Some(stage) = first_stage(&self.files, slot, name) else {
             return Err(self.fail(slot));
         };
+        let Ok(name) = String::from_str(alloc, name) else {
+            return Err(DeskFault::OutOfMemory);
+        };
         self.clear(slot);
+        self.names.put(slot, Some(name));
         self.stages.put(slot, stage);
         Ok(())
     }
 
     fn read(&mut self, slot: Slot, buffer: &mut [u8]) -> Result<usize, DeskFault>
         requires read { IsRead slot }
-        requires begun { is_begun_at self.old slot ≡ true }
+        requires begun { (state_of self.old).begun slot ≡ true }
         requires room { 0 < length buffer.old }
         ensures moved { IfOk result (λ n.
-            Moves (told_left self.old slot) (told_left self.new slot) buffer.new n) }
+            Moves ((state_of self.old).left slot) ((state_of self.new).left slot) buffer.new n) }
         ensures end { IfOk result (λ n.
-            IfSome (told_left self.old slot) (λ bytes. (n ≡ 0) ↔ (bytes ≡ []))) }
+            IfSome ((state_of self.old).left slot) (λ bytes. (n ≡ 0) ↔ (bytes ≡ []))) }
         ensures fits { IfOk result (λ n. n ≤ length buffer.old) }
-        ensures unmoved { OnErr result (told_left self.new slot ≡ told_left self.old slot) }
-        ensures begun { Same (is_begun_at self.old) (is_begun_at self.new) }
-        ensures finished { Same (is_finished_at self.old) (is_finished_at self.new) }
-        ensures keeps { Keeps file_of told_left told_written faults_of slot self.old self.new }
-        ensures cause { HasCause (faults_of self.old slot) (faults_of self.new slot) result }
+        ensures unmoved { OnErr result ((state_of self.new).left slot ≡ (state_of self.old).left slot) }
+        ensures begun { Same (state_of self.old).begun (state_of self.new).begun }
+        ensures finished { Same (state_of self.old).finished (state_of self.new).finished }
+        ensures names { Same (state_of self.old).names (state_of self.new).names }
+        ensures keeps { Keeps slot (state_of self.old) (state_of self.new) }
+        ensures cause { HasCause slot (state_of self.old) (state_of self.new) result }
         ensures takes_no_memory { result ≢ Err DeskFault.OutOfMemory }
         ensures failed { (result ≡ Err DeskFault.Failed) ↔ FailsNext self.old CallKind.Read }
         ensures piece { IfOk result (λ n.
@@ -217,17 +213,18 @@ impl Desk for MemoryDesk {
 
     fn write(&mut self, _alloc: Global, slot: Slot, bytes: &[u8]) -> Result<usize, DeskFault>
         requires written { IsWritten slot }
-        requires begun { is_begun_at self.old slot ≡ true }
-        requires unfinished { is_finished_at self.old slot ≡ false }
+        requires begun { (state_of self.old).begun slot ≡ true }
+        requires unfinished { (state_of self.old).finished slot ≡ false }
         ensures appended { IfOk result (λ n.
-            told_written self.new slot ≡ appended (told_written self.old slot) (take n bytes.now)) }
+            (state_of self.new).written slot ≡ appended ((state_of self.old).written slot) (take n bytes.now)) }
         ensures fits { IfOk result (λ n. n ≤ length bytes.now) }
         ensures some { IfOk result (λ n. bytes.now ≢ [] → 0 < n) }
-        ensures unwritten { OnErr result (told_written self.new slot ≡ told_written self.old slot) }
-        ensures begun { Same (is_begun_at self.old) (is_begun_at self.new) }
-        ensures finished { Same (is_finished_at self.old) (is_finished_at self.new) }
-        ensures keeps { Keeps file_of told_left told_written faults_of slot self.old self.new }
-        ensures cause { HasCause (faults_of self.old slot) (faults_of self.new slot) result }
+        ensures unwritten { OnErr result ((state_of self.new).written slot ≡ (state_of self.old).written slot) }
+        ensures begun { Same (state_of self.old).begun (state_of self.new).begun }
+        ensures finished { Same (state_of self.old).finished (state_of self.new).finished }
+        ensures names { Same (state_of self.old).names (state_of self.new).names }
+        ensures keeps { Keeps slot (state_of self.old) (state_of self.new) }
+        ensures cause { HasCause slot (state_of self.old) (state_of self.new) result }
         ensures failed { (result ≡ Err DeskFault.Failed) ↔ FailsNext self.old CallKind.Write }
         ensures piece { IfOk result (λ n. n ≡ min (length bytes.now) (piece_of self.old)) }
         ensures counts { Counts CallKind.Write slot (is_failed result) self.old self.new }
@@ -244,13 +241,14 @@ impl Desk for MemoryDesk {
 
     fn finish(&mut self, slot: Slot) -> Result<(), DeskFault>
         requires written { IsWritten slot }
-        requires begun { is_begun_at self.old slot ≡ true }
-        requires unfinished { is_finished_at self.old slot ≡ false }
-        ensures finished { AddsOnOk slot (is_finished_at self.old) (is_finished_at self.new) result }
-        ensures begun { Same (is_begun_at self.old) (is_begun_at self.new) }
-        ensures unchanged { told_written self.new slot ≡ told_written self.old slot }
-        ensures keeps { Keeps file_of told_left told_written faults_of slot self.old self.new }
-        ensures cause { HasCause (faults_of self.old slot) (faults_of self.new slot) result }
+        requires begun { (state_of self.old).begun slot ≡ true }
+        requires unfinished { (state_of self.old).finished slot ≡ false }
+        ensures finished { AddsOnOk slot (state_of self.old).finished (state_of self.new).finished result }
+        ensures begun { Same (state_of self.old).begun (state_of self.new).begun }
+        ensures unchanged { (state_of self.new).written slot ≡ (state_of self.old).written slot }
+        ensures names { Same (state_of self.old).names (state_of self.new).names }
+        ensures keeps { Keeps slot (state_of self.old) (state_of self.new) }
+        ensures cause { HasCause slot (state_of self.old) (state_of self.new) result }
         ensures takes_no_memory { result ≢ Err DeskFault.OutOfMemory }
         ensures failed { (result ≡ Err DeskFault.Failed) ↔ FailsNext self.old CallKind.Finish }
         ensures counts { Counts CallKind.Finish slot (is_failed result) self.old self.new }

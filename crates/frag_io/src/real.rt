@@ -85,9 +85,9 @@ pub struct RealDesk<'a, R: Files + Print> {
 impl<'a, R: Files + Print> RealDesk<'a, R> {
     /// A desk with no slot begun and no fault counted.
     pub fn new(rt: &'a R) -> RealDesk<'a, R>
-        ensures unbegun { (slot : Slot) → ⟦<RealDesk<'static, R> as Desk>⟧.begun result slot ≡ false }
-        ensures unfinished { (slot : Slot) → ⟦<RealDesk<'static, R> as Desk>⟧.finished result slot ≡ false }
-        ensures faultless { (slot : Slot) → ⟦<RealDesk<'static, R> as Desk>⟧.faults result slot ≡ 0 }
+        ensures unbegun { (slot : Slot) → (⟦<RealDesk<'static, R> as Desk>⟧.state result).begun slot ≡ false }
+        ensures unfinished { (slot : Slot) → (⟦<RealDesk<'static, R> as Desk>⟧.state result).finished slot ≡ false }
+        ensures faultless { (slot : Slot) → (⟦<RealDesk<'static, R> as Desk>⟧.state result).faults slot ≡ 0 }
     {
         RealDesk {
             rt,
@@ -153,17 +153,15 @@ impl<'a, R: Files + Print> RealDesk<'a, R> {
 impl<R: Files + Print> Desk for RealDesk<'_, R> {
     ghost use Rattle.frag_io.specs.Outlets.{finished_in_is_begun};
 
-    ghost begun = { λ desk slot. is_begun_in desk.outlets slot };
-
-    ghost finished = { λ desk slot. is_finished_in desk.outlets slot };
-
-    ghost gives = { λ _ _. None };
-
-    ghost left = { λ _ _. None };
-
-    ghost written = { λ _ _. None };
-
-    ghost faults = { λ desk slot. (at desk.faults slot).value };
+    ghost state = { λ desk. record {
+        begun = is_begun_in desk.outlets;
+        finished = is_finished_in desk.outlets;
+        names = λ _. None;
+        gives = λ _. None;
+        left = λ _. None;
+        written = λ _. None;
+        faults = λ slot. (at desk.faults slot).value;
+    } };
 
     ghost finished_was_begun = { λ desk slot is. finished_in_is_begun desk.outlets slot is };
 
@@ -228,7 +226,7 @@ mod tests {
     use std::test::Fail;
 
     fn text_of<D: Desk>(alloc: Global, desk: &mut D, name: &str) -> Result<Vec<u8>, ReadWhole>
-        requires { (slot : Slot) → D.begun desk.old slot ≡ false }
+        requires { (slot : Slot) → (D.state desk.old).begun slot ≡ false }
     {
         desk.begin(alloc, Slot::Spectra, name)?;
         read_whole(alloc, desk, Slot::Spectra, 100)

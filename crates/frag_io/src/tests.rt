@@ -9,8 +9,8 @@ use std::test::Fail;
 
 // Copies the text of a name, of at most `limit` bytes, to `copy.txt`.
 fn copy<D: Desk>(alloc: Global, desk: &mut D, name: &str, limit: usize) -> Result<(), ReadWhole>
-    requires unbegun { (slot : Slot) → D.begun desk.old slot ≡ false }
-    requires unfinished { (slot : Slot) → D.finished desk.old slot ≡ false }
+    requires unbegun { (slot : Slot) → (D.state desk.old).begun slot ≡ false }
+    requires unfinished { (slot : Slot) → (D.state desk.old).finished slot ≡ false }
 {
     desk.begin(alloc, Slot::Spectra, name)?;
     let text = read_whole(alloc, desk, Slot::Spectra, limit)?;
@@ -27,7 +27,7 @@ fn read_once<D: Desk>(
     name: &str,
     buffer: &mut [u8],
 ) -> Result<usize, DeskFault>
-    requires unbegun { (slot : Slot) → D.begun desk.old slot ≡ false }
+    requires unbegun { (slot : Slot) → (D.state desk.old).begun slot ≡ false }
     requires room { 0 < length buffer.old }
 {
     desk.begin(alloc, Slot::CertIn, name)?;
@@ -36,8 +36,8 @@ fn read_once<D: Desk>(
 
 // What the first write takes of some bytes.
 fn write_once<D: Desk>(alloc: Global, desk: &mut D, bytes: &[u8]) -> Result<usize, DeskFault>
-    requires unbegun { (slot : Slot) → D.begun desk.old slot ≡ false }
-    requires unfinished { (slot : Slot) → D.finished desk.old slot ≡ false }
+    requires unbegun { (slot : Slot) → (D.state desk.old).begun slot ≡ false }
+    requires unfinished { (slot : Slot) → (D.state desk.old).finished slot ≡ false }
 {
     desk.begin(alloc, Slot::Report, "")?;
     desk.write(alloc, Slot::Report, bytes)
@@ -46,8 +46,8 @@ fn write_once<D: Desk>(alloc: Global, desk: &mut D, bytes: &[u8]) -> Result<usiz
 // A desk over three files, of which two have one name.
 fn desk(alloc: Global, failing: &[Failing], piece: usize) -> Result<MemoryDesk, AllocError>
     requires { 0 < piece }
-    ensures unbegun { IfOk result (λ desk. (slot : Slot) → ⟦<MemoryDesk as Desk>⟧.begun desk slot ≡ false) }
-    ensures unfinished { IfOk result (λ desk. (slot : Slot) → ⟦<MemoryDesk as Desk>⟧.finished desk slot ≡ false) }
+    ensures unbegun { IfOk result (λ desk. (slot : Slot) → (⟦<MemoryDesk as Desk>⟧.state desk).begun slot ≡ false) }
+    ensures unfinished { IfOk result (λ desk. (slot : Slot) → (⟦<MemoryDesk as Desk>⟧.state desk).finished slot ≡ false) }
 {
     let mut files = Vec::new(alloc);
     for (name, bytes) in [("a.mgf", "abc"), ("b.toml", ""), ("a.mgf", "second")] {

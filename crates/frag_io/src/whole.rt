@@ -59,13 +59,14 @@ pub fn read_whole<D: Desk>(
     limit: usize,
 ) -> Result<Vec<u8>, ReadWhole>
     requires read { IsRead slot }
-    requires begun { D.begun desk.old slot ≡ true }
-    ensures whole { IfSome (D.left desk.old slot) (ReadsWhole limit (D.left desk.new slot) result) }
+    requires begun { (D.state desk.old).begun slot ≡ true }
+    ensures whole { IfSome ((D.state desk.old).left slot) (ReadsWhole limit ((D.state desk.new).left slot) result) }
     ensures short { IfOk result (λ bytes. length bytes.items ≤ limit) }
-    ensures begun { Same (D.begun desk.old) (D.begun desk.new) }
-    ensures finished { Same (D.finished desk.old) (D.finished desk.new) }
-    ensures keeps { Keeps D.gives D.left D.written D.faults slot desk.old desk.new }
-    ensures cause { result ≡ Err ReadWhole.Failed → IsCounted (D.faults desk.old slot) (D.faults desk.new slot) }
+    ensures begun { Same (D.state desk.old).begun (D.state desk.new).begun }
+    ensures finished { Same (D.state desk.old).finished (D.state desk.new).finished }
+    ensures names { Same (D.state desk.old).names (D.state desk.new).names }
+    ensures keeps { Keeps slot (D.state desk.old) (D.state desk.new) }
+    ensures cause { result ≡ Err ReadWhole.Failed → IsCounted slot (D.state desk.old) (D.state desk.new) }
 {
     let mut text = Vec::new(alloc);
     let mut buffer = make_buffer(alloc)?;
@@ -89,14 +90,17 @@ pub fn write_whole<D: Desk>(
     bytes: &[u8],
 ) -> Result<(), DeskFault>
     requires written { IsWritten slot }
-    requires begun { D.begun desk.old slot ≡ true }
-    requires unfinished { D.finished desk.old slot ≡ false }
-    ensures all { OnOk result (D.written desk.new slot ≡ appended (D.written desk.old slot) bytes.now) }
-    ensures part { OnErr result ((n : ℕ) × (D.written desk.new slot ≡ appended (D.written desk.old slot) (take n bytes.now))) }
-    ensures begun { Same (D.begun desk.old) (D.begun desk.new) }
-    ensures finished { Same (D.finished desk.old) (D.finished desk.new) }
-    ensures keeps { Keeps D.gives D.left D.written D.faults slot desk.old desk.new }
-    ensures cause { HasCause (D.faults desk.old slot) (D.faults desk.new slot) result }
+    requires begun { (D.state desk.old).begun slot ≡ true }
+    requires unfinished { (D.state desk.old).finished slot ≡ false }
+    ensures all { OnOk result
+        ((D.state desk.new).written slot ≡ appended ((D.state desk.old).written slot) bytes.now) }
+    ensures part { OnErr result ((n : ℕ)
+        × ((D.state desk.new).written slot ≡ appended ((D.state desk.old).written slot) (take n bytes.now))) }
+    ensures begun { Same (D.state desk.old).begun (D.state desk.new).begun }
+    ensures finished { Same (D.state desk.old).finished (D.state desk.new).finished }
+    ensures names { Same (D.state desk.old).names (D.state desk.new).names }
+    ensures keeps { Keeps slot (D.state desk.old) (D.state desk.new) }
+    ensures cause { HasCause slot (D.state desk.old) (D.state desk.new) result }
 {
     let mut done = 0;
     while done < bytes.len() {
