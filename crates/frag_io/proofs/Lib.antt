@@ -1,4 +1,5 @@
-mod Calls
-mod Moved
-mod Places
-mod Pieces
+mod Appended
+mod BytesUnder
+mod Keeps
+mod Moves
+mod ReadsWhole

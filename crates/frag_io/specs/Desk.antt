@@ -1,14 +1,15 @@
 -- What the calls of a desk do to its state, and which fault has which cause.
-use Rattle.std.specs.Prelude.{◌≡◌, ◌≤◌, ◌+◌, ◌-◌, ◌^◌, ◌++◌, ℕ, Bool, List, [], take, min, Option, Some, None, Result, Ok, Err, IfSome, IsErrOf}
+use Rattle.std.specs.Prelude.{◌≡◌, ◌≤◌, ◌++◌, ℕ, Bool, true, false, List, [], take, Option, Some, None, Result, Ok, Err, IfSome, IsErrOf, if◌then◌else◌}
 use Rattle.frag_io.specs.declared.desk.Slot.{Slot}
 use Rattle.frag_io.specs.declared.desk.DeskFault.{DeskFault}
-use Rattle.frag_io.specs.declared.desk.DeskFault.TheVariants.{Failed}
+use Rattle.frag_io.specs.declared.desk.DeskFault.TheVariants.{Failed, OutOfMemory}
+use Rattle.frag_io.specs.Count.{raised}
 use Rattle.frag_io.specs.DeskState.{DeskState}
 use Rattle.frag_io.specs.Slot.{SameBut, Same, Gains}
 
 -- A fault of a slot is counted between two moments: its count rose, or stands at the last value of a u64.
 abbrev pub IsCounted : Slot → DeskState → DeskState → Type 0
-IsCounted slot before now = min (before.faults slot + 1) (2 ^ 64 - 1) ≤ now.faults slot
+IsCounted slot before now = raised (before.faults slot) ≤ now.faults slot
 
 -- Where the desk tells the name under which a slot was begun, it is this one.
 abbrev pub IsNamed : Slot → List ℕ → DeskState → Type 0
@@ -40,6 +41,17 @@ AddsOnOk own before now (Err _) = Same before now
 -- `Failed` is answered only where a fault of the slot is counted in the call.
 abbrev pub HasCause : {T : Type 0} → Slot → DeskState → DeskState → Result T DeskFault → Type 0
 HasCause slot before now result = IsErrOf result Failed → IsCounted slot before now
+
+abbrev pub is_failed : {T : Type 0} → Result T DeskFault → Bool
+is_failed (Ok value) = false
+is_failed (Err Failed) = true
+is_failed (Err OutOfMemory) = false
+
+-- The exact counts of a call: one that answers `Failed` raises the count of its slot by one, any other raises none, and
+-- no call raises the count of another slot.
+pub record CountsFault {T : Type 0} (slot : Slot) (before now : DeskState) (result : Result T DeskFault) : Type 0 where
+  pub own : now.faults slot ≡ (if is_failed result then raised (before.faults slot) else before.faults slot)
+  pub others : SameBut slot before.faults now.faults
 
 -- A read moved the first n of the bytes that were left to the front of the buffer.
 abbrev pub Moves : Option (List ℕ) → Option (List ℕ) → List ℕ → ℕ → Type 0

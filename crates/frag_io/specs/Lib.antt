@@ -1,10 +1,10 @@
-pub mod BySlot
 pub mod Count
 pub mod Desk
 pub mod DeskState
 pub mod Failing
+pub mod Files
 pub mod Memory
-pub mod Outlets
+pub mod Real
 pub mod Slot
-pub mod Stage
 pub mod Whole
+pub mod inside

@@ -2,10 +2,11 @@
 ghost use Rattle.std.specs.Prelude.{◌≡◌, None};
 ghost use Rattle.frag_io.specs.declared.desk.Slot.{Slot};
 ghost use Rattle.frag_io.specs.Slot.{SameBut};
-ghost use Rattle.frag_io.specs.BySlot.{at};
+ghost use Rattle.frag_io.specs.inside.BySlot.{at};
 
 use crate::Slot;
 
+/// One value for each slot.
 #[derive(Drop)]
 pub(crate) struct BySlot<T> {
     spectra: T,

@@ -10,18 +10,21 @@ pub(crate) struct Count {
 }
 
 impl Count {
+    /// Nothing happened yet.
     pub(crate) fn zero() -> Count
         ensures { result.value ≡ 0 }
     {
         Count { value: 0 }
     }
 
+    /// How often it happened.
     pub(crate) fn value(self) -> u64
         ensures { result ≡ self.value }
     {
         self.value
     }
 
+    /// The count after one time more.
     pub(crate) fn raised(self) -> Count
         ensures { result.value ≡ raised self.value }
     {

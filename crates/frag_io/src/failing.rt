@@ -39,6 +39,7 @@ pub(crate) struct Plan {
 }
 
 impl Plan {
+    /// A plan of these failing calls, before any call.
     pub(crate) fn new(failing: Vec<Failing>) -> Plan
         ensures failing { result.failing ≡ failing }
         ensures none_yet { (kind : CallKind) → calls_of result kind ≡ 0 }
@@ -61,7 +62,7 @@ impl Plan {
         is_planned(&self.failing, kind, number)
     }
 
-    // Counts a call, and gives its number.
+    /// Counts a call, and gives its number.
     fn count(&mut self, kind: CallKind) -> u64
         ensures number { result ≡ raised (calls_of self.old kind) }
         ensures counted { CountsCall kind self.old self.new }
@@ -87,7 +88,7 @@ impl Plan {
     }
 }
 
-// Whether a call is one of these.
+/// Whether a call is one of these.
 fn is_planned(failing: &[Failing], kind: CallKind, number: u64) -> bool
     ensures { IsTrue result ↔ Contains failing.now (record { kind = kind; number = number }) }
 {

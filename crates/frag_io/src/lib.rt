@@ -5,6 +5,7 @@ mod by_slot;
 mod count;
 mod desk;
 mod failing;
+mod faults;
 mod memory;
 mod real;
 mod stage;

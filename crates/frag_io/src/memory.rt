@@ -2,14 +2,13 @@
 ghost use Rattle.std.specs.Prelude.{◌≡◌, ◌≢◌, ◌≤◌, ◌<◌, ◌↔◌, ◌⊎◌, take, ℕ, List, false, None, Some, [], ◌++◌, length, min, IfOk, OnOk, OnErr, IsTrue, IfSome, true};
 ghost use Rattle.frag_io.specs.declared.desk.Slot.{Slot};
 ghost use Rattle.frag_io.specs.Slot.{IsRead, IsWritten, SameBut, Same};
-ghost use Rattle.frag_io.specs.BySlot.{at};
+ghost use Rattle.frag_io.specs.inside.BySlot.{at};
 ghost use Rattle.frag_io.specs.Failing.{IsDue, CountsCall};
-ghost use Rattle.frag_io.specs.Count.{raised};
-ghost use Rattle.frag_io.specs.Stage.{bytes_under};
+ghost use Rattle.frag_io.specs.Files.{bytes_under};
 
 use crate::by_slot::BySlot;
-use crate::count::Count;
 use crate::failing::Plan;
+use crate::faults::Faults;
 use crate::stage::{Source, Stage, first_stage, rest};
 use crate::{CallKind, Desk, DeskFault, Failing, Slot};
 use std::alloc::{AllocError, Global};
@@ -22,7 +21,7 @@ pub struct MemoryDesk {
     piece: usize,
     stages: BySlot<Stage>,
     names: BySlot<Option<String>>,
-    faults: BySlot<Count>,
+    faults: Faults,
     report: Vec<u8>,
     cert_out: Vec<u8>,
     ghost has_piece: { 0 < piece },
@@ -55,7 +54,7 @@ impl MemoryDesk {
             piece,
             stages: BySlot::of(Stage::Fresh),
             names: BySlot::none(),
-            faults: BySlot::of(Count::zero()),
+            faults: Faults::none(),
             report: Vec::new(alloc),
             cert_out: Vec::new(alloc),
         }
@@ -77,22 +76,10 @@ impl MemoryDesk {
     pub fn faults(&self, slot: Slot) -> u64
         ensures { result ≡ (state_of self.now).faults slot }
     {
-        self.faults.at(slot).value()
+        self.faults.at(slot)
     }
 
-    // Counts a fault of a slot, and tells it.
-    fn fail(&mut self, slot: Slot) -> DeskFault
-        ensures fault { result ≡ DeskFault.Failed }
-        ensures counted { (at self.new.faults slot).value ≡ raised (at self.old.faults slot).value }
-        ensures others { SameBut slot (at self.old.faults) (at self.new.faults) }
-        ensures rest { self.new ≡ record self.old { faults = self.new.faults } }
-    {
-        let count = self.faults.at(slot);
-        self.faults.put(slot, count.raised());
-        DeskFault::Failed
-    }
-
-    // Counts a call, and tells whether it is to fail.
+    /// Counts a call, and tells whether it is to fail.
     fn is_due(&mut self, kind: CallKind) -> bool
         ensures due { IsTrue result ↔ IsDue self.old.plan kind }
         ensures counted { CountsCall kind self.old.plan self.new.plan }
@@ -101,7 +88,7 @@ impl MemoryDesk {
         self.plan.is_due(kind)
     }
 
-    // Puts bytes behind those of a written slot.
+    /// Puts bytes behind those of a written slot.
     fn append(&mut self, slot: Slot, bytes: &[u8]) -> Result<(), AllocError>
         requires { IsWritten slot }
         ensures ok { OnOk result (bytes_at self.new slot ≡ bytes_at self.old slot ++ bytes.now) }
@@ -117,7 +104,7 @@ impl MemoryDesk {
         }
     }
 
-    // Empties a slot.
+    /// Empties a slot.
     fn clear(&mut self, slot: Slot)
         ensures own { bytes_at self.new slot ≡ [] }
         ensures others { SameBut slot (bytes_at self.old) (bytes_at self.new) }
@@ -134,9 +121,9 @@ impl MemoryDesk {
 
 impl Desk for MemoryDesk {
     ghost use Rattle.frag_io.specs.declared.desk.Slot.TheVariants.{Report};
-    ghost use Rattle.frag_io.specs.Desk.{IsNamed, IsEmpty, appended, Keeps, AddsOnOk, HasCause, Moves};
-    ghost use Rattle.frag_io.specs.Memory.{bytes_at, state_of, left_of, piece_of, FailsNext, is_failed, Counts};
-    ghost use Rattle.frag_io.specs.Stage.{finished_is_begun, fresh_is_empty};
+    ghost use Rattle.frag_io.specs.Desk.{IsNamed, IsEmpty, appended, Keeps, AddsOnOk, HasCause, CountsFault, Moves};
+    ghost use Rattle.frag_io.specs.Memory.{bytes_at, state_of, left_of, piece_of, FailsNext, Counts};
+    ghost use Rattle.frag_io.specs.inside.Stage.{finished_is_begun, fresh_is_empty};
 
     ghost state = { state_of };
 
@@ -144,7 +131,7 @@ impl Desk for MemoryDesk {
 
     ghost unbegun_is_empty = { λ desk slot _ is. fresh_is_empty (at desk.stages slot) (bytes_at desk slot) is };
 
-    ghost counts_fit = { λ desk slot. (at desk.faults slot).fits };
+    ghost counts_fit = { λ desk slot. (at desk.faults.counts slot).fits };
 
     fn begin(&mut self, alloc: Global, slot: Slot, name: &str) -> Result<(), DeskFault>
         requires fresh { (state_of self.old).begun slot ≡ false }
@@ -158,13 +145,14 @@ impl Desk for MemoryDesk {
         ensures cause { HasCause slot (state_of self.old) (state_of self.new) result }
         ensures failed { (result ≡ Err DeskFault.Failed)
             ↔ (FailsNext self.old CallKind.Begin ⊎ (IsRead slot × ((state_of self.old).gives name.now ≡ None))) }
-        ensures counts { Counts CallKind.Begin slot (is_failed result) self.old self.new }
+        ensures faults { CountsFault slot (state_of self.old) (state_of self.new) result }
+        ensures calls { Counts CallKind.Begin self.old self.new }
     {
         if self.is_due(CallKind::Begin) {
-            return Err(self.fail(slot));
+            return Err(self.faults.fail(slot));
         }
         let Some(stage) = first_stage(&self.files, slot, name) else {
-            return Err(self.fail(slot));
+            return Err(self.faults.fail(slot));
         };
         let Ok(name) = String::from_str(alloc, name) else {
             return Err(DeskFault::OutOfMemory);
@@ -194,10 +182,11 @@ impl Desk for MemoryDesk {
         ensures failed { (result ≡ Err DeskFault.Failed) ↔ FailsNext self.old CallKind.Read }
         ensures piece { IfOk result (λ n.
             n ≡ min (min (length (left_of self.old slot)) (length buffer.old)) (piece_of self.old)) }
-        ensures counts { Counts CallKind.Read slot (is_failed result) self.old self.new }
+        ensures faults { CountsFault slot (state_of self.old) (state_of self.new) result }
+        ensures calls { Counts CallKind.Read self.old self.new }
     {
         if self.is_due(CallKind::Read) {
-            return Err(self.fail(slot));
+            return Err(self.faults.fail(slot));
         }
         let Stage::Reading(source) = self.stages.at(slot) else {
             return Ok(0);
@@ -227,10 +216,11 @@ impl Desk for MemoryDesk {
         ensures cause { HasCause slot (state_of self.old) (state_of self.new) result }
         ensures failed { (result ≡ Err DeskFault.Failed) ↔ FailsNext self.old CallKind.Write }
         ensures piece { IfOk result (λ n. n ≡ min (length bytes.now) (piece_of self.old)) }
-        ensures counts { Counts CallKind.Write slot (is_failed result) self.old self.new }
+        ensures faults { CountsFault slot (state_of self.old) (state_of self.new) result }
+        ensures calls { Counts CallKind.Write self.old self.new }
     {
         if self.is_due(CallKind::Write) {
-            return Err(self.fail(slot));
+            return Err(self.faults.fail(slot));
         }
         let n = bytes.len().min(self.piece);
         match self.append(slot, &bytes[..n]) {
@@ -251,10 +241,11 @@ impl Desk for MemoryDesk {
         ensures cause { HasCause slot (state_of self.old) (state_of self.new) result }
         ensures takes_no_memory { result ≢ Err DeskFault.OutOfMemory }
         ensures failed { (result ≡ Err DeskFault.Failed) ↔ FailsNext self.old CallKind.Finish }
-        ensures counts { Counts CallKind.Finish slot (is_failed result) self.old self.new }
+        ensures faults { CountsFault slot (state_of self.old) (state_of self.new) result }
+        ensures calls { Counts CallKind.Finish self.old self.new }
     {
         if self.is_due(CallKind::Finish) {
-            return Err(self.fail(slot));
+            return Err(self.faults.fail(slot));
         }
         self.stages.put(slot, Stage::Finished);
         Ok(())

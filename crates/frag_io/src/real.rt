@@ -1,41 +1,42 @@
 //! A desk over the files and the standard output of a runtime. What these do is beyond any proof: here stands only what
 //! is asked of them, and how their errors are counted.
-ghost use Rattle.std.specs.Prelude.{◌≡◌, ◌≤◌, ◌<◌, ◌↔◌, true, false, None, length, IfOk, OnOk, OnErr, IsSome};
+ghost use Rattle.std.specs.Prelude.{◌≡◌, ◌≢◌, ◌≤◌, ◌<◌, ◌↔◌, true, false, [], length, take, IfOk, IfSome, OnOk, OnErr, IsSome};
 ghost use Rattle.std.specs.IoError.{error_kind};
 ghost use Rattle.frag_io.specs.declared.desk.Slot.{Slot};
 ghost use Rattle.frag_io.specs.Slot.{SameBut, Same, Gains};
-ghost use Rattle.frag_io.specs.BySlot.{at};
 ghost use Rattle.frag_io.specs.Count.{raised};
-ghost use Rattle.frag_io.specs.Outlets.{is_open, is_ended, is_begun_in, is_finished_in};
+ghost use Rattle.frag_io.specs.inside.BySlot.{at};
+ghost use Rattle.frag_io.specs.inside.Faults.{faults_of};
+ghost use Rattle.frag_io.specs.inside.Outlets.{is_open, is_ended, is_begun_in, is_finished_in};
 
-use crate::by_slot::BySlot;
-use crate::count::Count;
+use crate::faults::Faults;
 use crate::{Desk, DeskFault, Slot};
 use std::alloc::Global;
 use std::io::{ErrorKind, Read, Write};
 use std::rt::Files;
 use std::{fs, io};
 
-// What a slot is written to.
+/// What a slot is written to.
 #[derive(Drop)]
 enum Outlet<F> {
-    // It was not begun.
+    /// It was not begun.
     Fresh,
     Open(F),
     Finished,
 }
 
-// The slots' files. The report goes to the standard output, which is always open.
+/// The slots' files, and the counts of their faults. The report goes to the standard output, which is always open.
 #[derive(Drop)]
-struct Outlets<F> {
+struct Slots<F> {
     spectra: Option<F>,
     profile: Option<F>,
     cert_in: Option<F>,
     report: Outlet<()>,
     cert_out: Outlet<F>,
+    faults: Faults,
 }
 
-// Reads an open file.
+/// Reads an open file.
 fn read_from<F: Read>(file: &mut Option<F>, buffer: &mut [u8]) -> io::Result<usize>
     requires { IsSome file.old }
     ensures open { IsSome file.new }
@@ -47,7 +48,7 @@ fn read_from<F: Read>(file: &mut Option<F>, buffer: &mut [u8]) -> io::Result<usi
     }
 }
 
-// Writes to an open file.
+/// Writes to an open file.
 fn write_to<F: Write>(outlet: &mut Outlet<F>, bytes: &[u8]) -> io::Result<usize>
     requires { is_open outlet.old ≡ true }
     ensures open { is_open outlet.new ≡ true }
@@ -59,7 +60,7 @@ fn write_to<F: Write>(outlet: &mut Outlet<F>, bytes: &[u8]) -> io::Result<usize>
     }
 }
 
-// Ends an open file; where the system refuses, it stays open.
+/// Ends an open file; where the system refuses, it stays open.
 fn end<F: Write + Drop>(outlet: &mut Outlet<F>) -> io::Result<()>
     requires { is_open outlet.old ≡ true }
     ensures ended { OnOk result (is_ended outlet.new ≡ true) }
@@ -78,8 +79,7 @@ fn end<F: Write + Drop>(outlet: &mut Outlet<F>) -> io::Result<()>
 #[derive(Drop)]
 pub struct RealDesk<'a, R: Files + Print> {
     rt: &'a R,
-    outlets: Outlets<R::File>,
-    faults: BySlot<Count>,
+    slots: Slots<R::File>,
 }
 
 impl<'a, R: Files + Print> RealDesk<'a, R> {
@@ -91,130 +91,169 @@ impl<'a, R: Files + Print> RealDesk<'a, R> {
     {
         RealDesk {
             rt,
-            outlets: Outlets {
+            slots: Slots {
                 spectra: None,
                 profile: None,
                 cert_in: None,
                 report: Outlet::Fresh,
                 cert_out: Outlet::Fresh,
+                faults: Faults::none(),
             },
-            faults: BySlot::of(Count::zero()),
         }
     }
 
-    // Counts a fault of a slot, and tells it.
-    fn fail(&mut self, slot: Slot) -> DeskFault
-        ensures fault { result ≡ DeskFault.Failed }
-        ensures counted { (at self.new.faults slot).value ≡ raised (at self.old.faults slot).value }
-        ensures others { SameBut slot (at self.old.faults) (at self.new.faults) }
-        ensures rest { self.new ≡ record self.old { faults = self.new.faults } }
-    {
-        let count = self.faults.at(slot);
-        self.faults.put(slot, count.raised());
-        DeskFault::Failed
-    }
-
-    // Counts an error as a fault of a slot, and tells it, but for want of memory.
+    /// Counts an error as a fault of a slot, and tells it, but for want of memory.
     fn refuse(&mut self, slot: Slot, error: &io::Error) -> DeskFault
         ensures memory { (result ≡ DeskFault.OutOfMemory)
             ↔ (error_kind error.now ≡ ErrorKind.OutOfMemory) }
         ensures counted { result ≡ DeskFault.Failed
-            → (at self.new.faults slot).value ≡ raised (at self.old.faults slot).value }
+            → faults_of self.new.slots.faults slot ≡ raised (faults_of self.old.slots.faults slot) }
         ensures uncounted { result ≡ DeskFault.OutOfMemory → self.new ≡ self.old }
-        ensures others { SameBut slot (at self.old.faults) (at self.new.faults) }
-        ensures rest { self.new ≡ record self.old { faults = self.new.faults } }
+        ensures others { SameBut slot (faults_of self.old.slots.faults) (faults_of self.new.slots.faults) }
+        ensures rest { self.new.slots ≡ record self.old.slots { faults = self.new.slots.faults } }
     {
         if error.kind() == ErrorKind::OutOfMemory {
             DeskFault::OutOfMemory
         } else {
-            self.fail(slot)
+            self.slots.faults.fail(slot)
         }
     }
 
-    // Opens a slot.
+    /// Opens a slot.
     fn open(&mut self, slot: Slot, name: &str) -> io::Result<()>
-        ensures ok { OnOk result (Gains slot (is_begun_in self.old.outlets) (is_begun_in self.new.outlets)) }
-        ensures err { OnErr result (Same (is_begun_in self.old.outlets) (is_begun_in self.new.outlets)) }
-        ensures finished { is_finished_in self.old.outlets slot ≡ false
-            → Same (is_finished_in self.old.outlets) (is_finished_in self.new.outlets) }
-        ensures faults { self.new.faults ≡ self.old.faults }
+        ensures ok { OnOk result (Gains slot (is_begun_in self.old.slots) (is_begun_in self.new.slots)) }
+        ensures err { OnErr result (Same (is_begun_in self.old.slots) (is_begun_in self.new.slots)) }
+        ensures finished { is_finished_in self.old.slots slot ≡ false
+            → Same (is_finished_in self.old.slots) (is_finished_in self.new.slots) }
+        ensures faults { self.new.slots.faults ≡ self.old.slots.faults }
     {
         match slot {
-            Slot::Spectra => self.outlets.spectra = Some(fs::open(self.rt, name)?),
-            Slot::Profile => self.outlets.profile = Some(fs::open(self.rt, name)?),
-            Slot::CertIn => self.outlets.cert_in = Some(fs::open(self.rt, name)?),
-            Slot::Report => self.outlets.report = Outlet::Open(()),
-            Slot::CertOut => self.outlets.cert_out = Outlet::Open(fs::create(self.rt, name)?),
+            Slot::Spectra => self.slots.spectra = Some(fs::open(self.rt, name)?),
+            Slot::Profile => self.slots.profile = Some(fs::open(self.rt, name)?),
+            Slot::CertIn => self.slots.cert_in = Some(fs::open(self.rt, name)?),
+            Slot::Report => self.slots.report = Outlet::Open(()),
+            Slot::CertOut => self.slots.cert_out = Outlet::Open(fs::create(self.rt, name)?),
         }
         Ok(())
     }
 }
 
 impl<R: Files + Print> Desk for RealDesk<'_, R> {
-    ghost use Rattle.frag_io.specs.Outlets.{finished_in_is_begun};
+    ghost use Rattle.frag_io.specs.declared.desk.Slot.TheVariants.{Report};
+    ghost use Rattle.frag_io.specs.Desk.{IsNamed, IsEmpty, appended, Keeps, AddsOnOk, HasCause, CountsFault, Moves};
+    ghost use Rattle.frag_io.specs.Real.{state_of};
+    ghost use Rattle.frag_io.specs.Slot.{IsRead, IsWritten};
+    ghost use Rattle.frag_io.specs.inside.Outlets.{finished_in_is_begun};
 
-    ghost state = { λ desk. record {
-        begun = is_begun_in desk.outlets;
-        finished = is_finished_in desk.outlets;
-        names = λ _. None;
-        gives = λ _. None;
-        left = λ _. None;
-        written = λ _. None;
-        faults = λ slot. (at desk.faults slot).value;
-    } };
+    ghost state = { λ desk. state_of desk.slots };
 
-    ghost finished_was_begun = { λ desk slot is. finished_in_is_begun desk.outlets slot is };
+    ghost finished_was_begun = { λ desk slot is. finished_in_is_begun desk.slots slot is };
 
     ghost unbegun_is_empty = { λ _ _ _ _. tt };
 
-    ghost counts_fit = { λ desk slot. (at desk.faults slot).fits };
+    ghost counts_fit = { λ desk slot. (at desk.slots.faults.counts slot).fits };
 
-    fn begin(&mut self, _alloc: Global, slot: Slot, name: &str) -> Result<(), DeskFault> {
+    fn begin(&mut self, _alloc: Global, slot: Slot, name: &str) -> Result<(), DeskFault>
+        requires fresh { (state_of self.old.slots).begun slot ≡ false }
+        requires unnamed { slot ≡ Report → name.now ≡ [] }
+        ensures begun { AddsOnOk slot (state_of self.old.slots).begun (state_of self.new.slots).begun result }
+        ensures finished { Same (state_of self.old.slots).finished (state_of self.new.slots).finished }
+        ensures named { OnOk result (IsNamed slot name.now (state_of self.new.slots)) }
+        ensures left { OnOk result (IsRead slot → (state_of self.new.slots).left slot ≡ (state_of self.old.slots).gives name.now) }
+        ensures written { OnOk result (IsWritten slot → IsEmpty ((state_of self.new.slots).written slot)) }
+        ensures keeps { Keeps slot (state_of self.old.slots) (state_of self.new.slots) }
+        ensures faults { CountsFault slot (state_of self.old.slots) (state_of self.new.slots) result }
+        ensures cause { HasCause slot (state_of self.old.slots) (state_of self.new.slots) result }
+    {
         match self.open(slot, name) {
             Ok(()) => Ok(()),
             Err(error) => Err(self.refuse(slot, &error)),
         }
     }
 
-    fn read(&mut self, slot: Slot, buffer: &mut [u8]) -> Result<usize, DeskFault> {
+    fn read(&mut self, slot: Slot, buffer: &mut [u8]) -> Result<usize, DeskFault>
+        requires read { IsRead slot }
+        requires begun { (state_of self.old.slots).begun slot ≡ true }
+        requires room { 0 < length buffer.old }
+        ensures moved { IfOk result (λ n.
+            Moves ((state_of self.old.slots).left slot) ((state_of self.new.slots).left slot) buffer.new n) }
+        ensures end { IfOk result (λ n.
+            IfSome ((state_of self.old.slots).left slot) (λ bytes. (n ≡ 0) ↔ (bytes ≡ []))) }
+        ensures fits { IfOk result (λ n. n ≤ length buffer.old) }
+        ensures unmoved { OnErr result ((state_of self.new.slots).left slot ≡ (state_of self.old.slots).left slot) }
+        ensures begun { Same (state_of self.old.slots).begun (state_of self.new.slots).begun }
+        ensures finished { Same (state_of self.old.slots).finished (state_of self.new.slots).finished }
+        ensures names { Same (state_of self.old.slots).names (state_of self.new.slots).names }
+        ensures keeps { Keeps slot (state_of self.old.slots) (state_of self.new.slots) }
+        ensures faults { CountsFault slot (state_of self.old.slots) (state_of self.new.slots) result }
+        ensures cause { HasCause slot (state_of self.old.slots) (state_of self.new.slots) result }
+        ensures takes_no_memory { result ≢ Err DeskFault.OutOfMemory }
+    {
         let outcome = match slot {
-            Slot::Spectra => read_from(&mut self.outlets.spectra, buffer),
-            Slot::Profile => read_from(&mut self.outlets.profile, buffer),
-            Slot::CertIn => read_from(&mut self.outlets.cert_in, buffer),
+            Slot::Spectra => read_from(&mut self.slots.spectra, buffer),
+            Slot::Profile => read_from(&mut self.slots.profile, buffer),
+            Slot::CertIn => read_from(&mut self.slots.cert_in, buffer),
             _ => unreachable!(),
         };
         match outcome {
             Ok(n) => Ok(n),
-            Err(_) => Err(self.fail(slot)),
+            Err(_) => Err(self.slots.faults.fail(slot)),
         }
     }
 
-    fn write(&mut self, _alloc: Global, slot: Slot, bytes: &[u8]) -> Result<usize, DeskFault> {
+    fn write(&mut self, _alloc: Global, slot: Slot, bytes: &[u8]) -> Result<usize, DeskFault>
+        requires written { IsWritten slot }
+        requires begun { (state_of self.old.slots).begun slot ≡ true }
+        requires unfinished { (state_of self.old.slots).finished slot ≡ false }
+        ensures appended { IfOk result (λ n.
+            (state_of self.new.slots).written slot ≡ appended ((state_of self.old.slots).written slot) (take n bytes.now)) }
+        ensures fits { IfOk result (λ n. n ≤ length bytes.now) }
+        ensures some { IfOk result (λ n. bytes.now ≢ [] → 0 < n) }
+        ensures unwritten { OnErr result ((state_of self.new.slots).written slot ≡ (state_of self.old.slots).written slot) }
+        ensures begun { Same (state_of self.old.slots).begun (state_of self.new.slots).begun }
+        ensures finished { Same (state_of self.old.slots).finished (state_of self.new.slots).finished }
+        ensures names { Same (state_of self.old.slots).names (state_of self.new.slots).names }
+        ensures keeps { Keeps slot (state_of self.old.slots) (state_of self.new.slots) }
+        ensures faults { CountsFault slot (state_of self.old.slots) (state_of self.new.slots) result }
+        ensures cause { HasCause slot (state_of self.old.slots) (state_of self.new.slots) result }
+    {
         let outcome = match slot {
             Slot::Report => self.rt.write_some(bytes),
-            Slot::CertOut => write_to(&mut self.outlets.cert_out, bytes),
+            Slot::CertOut => write_to(&mut self.slots.cert_out, bytes),
             _ => unreachable!(),
         };
         match outcome {
-            Ok(0) if !bytes.is_empty() => Err(self.fail(slot)),
+            Ok(0) if !bytes.is_empty() => Err(self.slots.faults.fail(slot)),
             Ok(n) => Ok(n),
             Err(error) => Err(self.refuse(slot, &error)),
         }
     }
 
-    // The standard output keeps nothing back that would have to be flushed.
-    fn finish(&mut self, slot: Slot) -> Result<(), DeskFault> {
+    /// The standard output keeps nothing back that would have to be flushed.
+    fn finish(&mut self, slot: Slot) -> Result<(), DeskFault>
+        requires written { IsWritten slot }
+        requires begun { (state_of self.old.slots).begun slot ≡ true }
+        requires unfinished { (state_of self.old.slots).finished slot ≡ false }
+        ensures finished { AddsOnOk slot (state_of self.old.slots).finished (state_of self.new.slots).finished result }
+        ensures begun { Same (state_of self.old.slots).begun (state_of self.new.slots).begun }
+        ensures unchanged { (state_of self.new.slots).written slot ≡ (state_of self.old.slots).written slot }
+        ensures names { Same (state_of self.old.slots).names (state_of self.new.slots).names }
+        ensures keeps { Keeps slot (state_of self.old.slots) (state_of self.new.slots) }
+        ensures faults { CountsFault slot (state_of self.old.slots) (state_of self.new.slots) result }
+        ensures cause { HasCause slot (state_of self.old.slots) (state_of self.new.slots) result }
+        ensures takes_no_memory { result ≢ Err DeskFault.OutOfMemory }
+    {
         let outcome = match slot {
             Slot::Report => {
-                self.outlets.report = Outlet::Finished;
+                self.slots.report = Outlet::Finished;
                 Ok(())
             }
-            Slot::CertOut => end(&mut self.outlets.cert_out),
+            Slot::CertOut => end(&mut self.slots.cert_out),
             _ => unreachable!(),
         };
         match outcome {
             Ok(()) => Ok(()),
-            Err(_) => Err(self.fail(slot)),
+            Err(_) => Err(self.slots.faults.fail(slot)),
         }
     }
 }
@@ -238,8 +277,8 @@ mod tests {
             let mut desk = RealDesk::new(&rt);
             let text = text_of(rt.alloc(), &mut desk, name);
             assert!(rt; matches!(text, Err(ReadWhole::Failed)), "{name}");
-            assert_eq!(rt; desk.faults.at(Slot::Spectra).value(), 1, "{name}");
-            assert_eq!(rt; desk.faults.at(Slot::Profile).value(), 0, "{name}");
+            assert_eq!(rt; desk.slots.faults.at(Slot::Spectra), 1, "{name}");
+            assert_eq!(rt; desk.slots.faults.at(Slot::Profile), 0, "{name}");
         }
         Ok(())
     }

@@ -2,13 +2,13 @@
 ghost use Rattle.std.specs.Prelude.{◌≡◌, ◌≤◌, ◌<◌, ℕ, true, false, length, take, IfSome, IfOk, OnOk, OnErr};
 ghost use Rattle.frag_io.specs.Slot.{IsRead, IsWritten, Same};
 ghost use Rattle.frag_io.specs.Desk.{appended, Keeps, HasCause, IsCounted};
-ghost use Rattle.frag_io.specs.Whole.{ReadsWhole};
+ghost use Rattle.frag_io.specs.Whole.{ReadsWhole, greatest_piece};
 
 use crate::{Desk, DeskFault, Slot};
 use std::alloc::{AllocError, Global};
 
-/// How many bytes a read asks for.
-pub const PIECE: usize = 65_536;
+/// How many bytes a read asks for, and so how many are read past a limit at most.
+const GREATEST_PIECE: usize = 65_536;
 
 /// Why a slot was not read whole.
 #[derive(Clone, Copy, Debug, PartialEq, Eq)]
@@ -44,11 +44,11 @@ impl From<AllocError> for ReadWhole {
     }
 }
 
-// Room for what one read brings.
+/// Room for what one read brings.
 fn make_buffer(alloc: Global) -> Result<Vec<u8>, AllocError>
-    ensures { IfOk result (λ buffer. length buffer.items ≡ PIECE) }
+    ensures { IfOk result (λ buffer. length buffer.items ≡ greatest_piece) }
 {
-    vec![in alloc; 0u8; PIECE]
+    vec![in alloc; 0u8; GREATEST_PIECE]
 }
 
 /// All that a read slot has, read to its end, of at most `limit` bytes. Past the limit no more than 65,536 are read.

@@ -1,5 +1,5 @@
 use Rattle.std.proofs.Common.{Some, None}
-use Rattle.frag_io.proofs.Places.{stands_first}
+use Rattle.frag_io.proofs.BytesUnder.{stands_first}
 use Rattle.frag_io.proofs.stage.source_of.Goals as goal
 
 pub returns-in_err-place : goal.returns-in_err-place

@@ -1,17 +1,18 @@
 use Rattle.std.proofs.Common.{◌≡◌, ◌≤◌, ◌-◌, ◌++◌, ℕ, List, length, Some, IfSome}
-use Rattle.frag_io.specs.declared.whole.TheConstants.{PIECE}
 use Rattle.frag_io.specs.Slot.{Same}
 use Rattle.frag_io.specs.Desk.{Keeps}
+use Rattle.frag_io.specs.Whole.{greatest_piece}
 use Rattle.frag_io.proofs.whole.read_whole.Given as goal
 
 abbrev pub invariant-loop-buffer : goal.invariant-loop-buffer
 invariant-loop-buffer g l = record {
   short : length l.text.items ≤ l.limit;
-  room : length l.buffer.items ≡ PIECE;
-  left : IfSome (g.D.Desk.left l.fn.desk l.slot) (λ text. (rest : List ℕ) × (g.D.Desk.left l.desk l.slot ≡ Some rest) × (text ≡ l.text.items ++ rest));
-  begun : Same (g.D.Desk.begun l.fn.desk) (g.D.Desk.begun l.desk);
-  finished : Same (g.D.Desk.finished l.fn.desk) (g.D.Desk.finished l.desk);
-  keeps : Keeps g.D.Desk.gives g.D.Desk.left g.D.Desk.written g.D.Desk.faults l.slot l.fn.desk l.desk;
+  room : length l.buffer.items ≡ greatest_piece;
+  left : IfSome ((g.D.Desk.state l.fn.desk).left l.slot) (λ text. (rest : List ℕ) × ((g.D.Desk.state l.desk).left l.slot ≡ Some rest) × (text ≡ l.text.items ++ rest));
+  begun : Same (g.D.Desk.state l.fn.desk).begun (g.D.Desk.state l.desk).begun;
+  finished : Same (g.D.Desk.state l.fn.desk).finished (g.D.Desk.state l.desk).finished;
+  names : Same (g.D.Desk.state l.fn.desk).names (g.D.Desk.state l.desk).names;
+  keeps : Keeps l.slot (g.D.Desk.state l.fn.desk) (g.D.Desk.state l.desk);
 }
 
 abbrev pub decreases-loop-buffer : goal.decreases-loop-buffer

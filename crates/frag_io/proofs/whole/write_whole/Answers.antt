@@ -1,7 +1,7 @@
 use Rattle.std.proofs.Common.{ℕ, ◌-◌, List, Option, length, take, drop, ap, ◌∙◌, arith}
 use Rattle.frag_io.specs.Desk.{appended}
-use Rattle.frag_io.proofs.Calls.{Same-trans, Keeps-trans}
-use Rattle.frag_io.proofs.Moved.{appended-more}
+use Rattle.frag_io.proofs.Keeps.{Same-trans, Keeps-trans}
+use Rattle.frag_io.proofs.Appended.{appended-more}
 use Rattle.frag_io.proofs.whole.write_whole.Goals as goal
 
 pub loop-done-preserved : goal.loop-done-preserved
@@ -16,5 +16,6 @@ loop-done-preserved g c =
       part = call.appended ∙ now ∙ appended-more _ c.loop-done.done c.in_ok-done.field-0 bytes;
       begun = Same-trans _ _ _ so_far.begun call.begun;
       finished = Same-trans _ _ _ so_far.finished call.finished;
-      keeps = Keeps-trans _ _ _ _ _ _ _ _ so_far.keeps call.keeps;
+      names = Same-trans _ _ _ so_far.names call.names;
+      keeps = Keeps-trans _ _ _ _ so_far.keeps call.keeps;
     }

@@ -6,10 +6,11 @@ use Rattle.frag_io.proofs.whole.write_whole.Given as goal
 abbrev pub invariant-loop-done : goal.invariant-loop-done
 invariant-loop-done g l = record {
   within : l.done ≤ length l.bytes;
-  part : g.D.Desk.written l.desk l.slot ≡ appended (g.D.Desk.written l.fn.desk l.slot) (take l.done l.bytes);
-  begun : Same (g.D.Desk.begun l.fn.desk) (g.D.Desk.begun l.desk);
-  finished : Same (g.D.Desk.finished l.fn.desk) (g.D.Desk.finished l.desk);
-  keeps : Keeps g.D.Desk.gives g.D.Desk.left g.D.Desk.written g.D.Desk.faults l.slot l.fn.desk l.desk;
+  part : (g.D.Desk.state l.desk).written l.slot ≡ appended ((g.D.Desk.state l.fn.desk).written l.slot) (take l.done l.bytes);
+  begun : Same (g.D.Desk.state l.fn.desk).begun (g.D.Desk.state l.desk).begun;
+  finished : Same (g.D.Desk.state l.fn.desk).finished (g.D.Desk.state l.desk).finished;
+  names : Same (g.D.Desk.state l.fn.desk).names (g.D.Desk.state l.desk).names;
+  keeps : Keeps l.slot (g.D.Desk.state l.fn.desk) (g.D.Desk.state l.desk);
 }
 
 abbrev pub decreases-loop-done : goal.decreases-loop-done

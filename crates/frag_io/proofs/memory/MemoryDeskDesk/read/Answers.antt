@@ -2,9 +2,9 @@ use Rattle.std.proofs.Common.{◌≡◌, ◌≤◌, ◌++◌, ℕ, List, length,
 use Rattle.frag_io.specs.declared.memory.MemoryDesk.{MemoryDesk}
 use Rattle.frag_io.specs.declared.stage.Stage.{Stage}
 use Rattle.frag_io.specs.declared.stage.Stage.TheVariants.{Reading}
-use Rattle.frag_io.specs.BySlot.{at}
-use Rattle.frag_io.specs.Stage.{rest_of, left_at}
-use Rattle.frag_io.proofs.Pieces.{read-moves, read_on}
+use Rattle.frag_io.specs.inside.BySlot.{at}
+use Rattle.frag_io.specs.inside.Stage.{rest_of, left_at}
+use Rattle.frag_io.proofs.Moves.{read-moves, read_on}
 use Rattle.frag_io.proofs.memory.MemoryDeskDesk.read.Goals as goal
 
 pub returns-clause-moved : goal.returns-clause-moved

@@ -1,10 +1,11 @@
--- The first file of a name stands at the first place that has the name.
+-- For `bytes_under`: the first file of a name stands at the first place that has the name.
 use Rattle.std.proofs.Common.{◌≡◌, ◌+◌, ℕ, suc, Bool, true, false, cond, List, [], ◌∷◌, Option, Some, None, MatchOption, Vec, String, refl, sym, ap, ◌∙◌, arith, subst}
 use Rattle.std.specs.List.{find, position, position_from, slice_get}
 use Rattle.std.specs.Option.{option_map}
 use Rattle.std.specs.declared.alloc.Global.{Global}
 use Rattle.std.proofs.lemmas.Iterator.Adapters.{position_from-zero}
-use Rattle.frag_io.specs.Stage.{Files, is_named, bytes_under, rest_in, rest_of}
+use Rattle.frag_io.specs.Files.{Files, is_named, bytes_under}
+use Rattle.frag_io.specs.inside.Stage.{rest_in, rest_of}
 
 abbrev File : Type 0
 File = String Global × Vec ℕ Global

@@ -1,21 +1,10 @@
--- The bytes that pass in several calls are those of each call in turn.
-use Rattle.std.proofs.Common.{◌≡◌, ◌<◌, ◌≤◌, ◌+◌, ◌-◌, ◌++◌, ◌↔◌, ℕ, List, Option, Some, None, IfSome, Result, Ok, Err, IsErrAnd, length, take, drop, refl, sym, ap, ◌∙◌, subst, append_assoc, arith, length-append, length-drop}
-use Rattle.std.proofs.lemmas.List.{length-take-le, take_all}
-use Rattle.std.proofs.Math.Seq.{take-add}
+-- For `ReadsWhole`: what comes of a reading that ends before its text does.
+use Rattle.std.proofs.Common.{◌≡◌, ◌<◌, ◌≤◌, ◌+◌, ◌++◌, ◌↔◌, ℕ, List, Option, Some, None, IfSome, Result, Ok, Err, IsErrAnd, length, take, sym, ap, ◌∙◌, subst, append_assoc, arith, length-append}
+use Rattle.std.proofs.lemmas.List.{length-take-le}
 use Rattle.frag_io.specs.declared.whole.ReadWhole.{ReadWhole}
 use Rattle.frag_io.specs.declared.whole.ReadWhole.TheVariants.{TooLong}
-use Rattle.frag_io.specs.Desk.{appended, Moves}
-use Rattle.frag_io.specs.Whole.{ReadsWhole}
-use Rattle.frag_io.specs.declared.whole.TheConstants.{PIECE}
-
--- two first parts of a text, one behind the other; the second is taken of all that follows the first
-pub appended-more : (told : Option (List ℕ)) (n m : ℕ) (bytes : List ℕ) → appended (appended told (take n bytes)) (take m (take (length bytes - n) (drop n bytes))) ≡ appended told (take (n + m) bytes)
-appended-more None n m bytes = refl
-appended-more (Some told) n m bytes =
-    let all : take (length bytes - n) (drop n bytes) ≡ drop n bytes = take_all _ _ (omega (arith, length-drop n bytes)) in
-    let joined : take n bytes ++ take m (take (length bytes - n) (drop n bytes)) ≡ take (n + m) bytes =
-    ap (λ (l : List ℕ). take n bytes ++ take m l) all ∙ sym (take-add n m bytes) in
-    ap (λ (l : List ℕ). Some l) (append_assoc told (take n bytes) (take m (take (length bytes - n) (drop n bytes))) ∙ ap (λ (l : List ℕ). told ++ l) joined)
+use Rattle.frag_io.specs.Desk.{Moves}
+use Rattle.frag_io.specs.Whole.{ReadsWhole, greatest_piece}
 
 -- the error that an `Err` holds
 pub Err-of : {T E : Type 0} (result : Result T E) (fault : E) → IsErrAnd result (λ e. e ≡ fault) → result ≡ Err fault
@@ -28,7 +17,7 @@ pub ReadsWhole-part : (limit n : ℕ) (told left left' : Option (List ℕ)) (so_
     → Moves left left' buffer n
     → n ≤ length buffer
     → ((fault ≡ TooLong) ↔ (limit < length so_far + n))
-    → length so_far + n ≤ limit + PIECE
+    → length so_far + n ≤ limit + greatest_piece
     → IfSome told (ReadsWhole limit left' (Err fault))
 ReadsWhole-part limit n None left left' so_far buffer fault had moved fits too_long stops = tt
 ReadsWhole-part limit n (Some text) left left' so_far buffer fault had moved fits too_long stops =

@@ -1,11 +1,12 @@
--- A read takes the next bytes of a file.
+-- For `Moves`: a read takes the next bytes of a file.
 use Rattle.std.proofs.Common.{◌≡◌, ◌≤◌, ◌+◌, ◌++◌, ℕ, List, Option, Some, None, Vec, String, length, take, drop, sym, ap, ◌∙◌, take-append-drop}
 use Rattle.std.specs.List.{slice_get}
 use Rattle.std.specs.declared.alloc.Global.{Global}
 use Rattle.std.proofs.Math.Seq.{drop-nil}
 use Rattle.std.proofs.lemmas.List.{drop-drop, take_at, length-take-le}
 use Rattle.frag_io.specs.declared.stage.Source.{Source}
-use Rattle.frag_io.specs.Stage.{Files, rest_in, rest_of}
+use Rattle.frag_io.specs.Files.{Files}
+use Rattle.frag_io.specs.inside.Stage.{rest_in, rest_of}
 
 -- the same file with more bytes read
 abbrev pub read_on : Source → ℕ → Source

@@ -4,7 +4,7 @@ use Rattle.frag_io.specs.declared.desk.Slot.{Slot}
 use Rattle.frag_io.specs.declared.desk.Slot.TheVariants.{Spectra, Profile, CertIn, Report, CertOut}
 use Rattle.frag_io.specs.declared.real.Outlet.{Outlet}
 use Rattle.frag_io.specs.declared.real.Outlet.TheVariants.{Fresh, Open, Finished}
-use Rattle.frag_io.specs.declared.real.Outlets.{Outlets}
+use Rattle.frag_io.specs.declared.real.Slots.{Slots}
 
 abbrev pub is_open : {F : Type 0} → Outlet F → Bool
 is_open Fresh = false
@@ -21,14 +21,14 @@ is_started Fresh = false
 is_started (Open file) = true
 is_started Finished = true
 
-abbrev pub is_begun_in : {F : Type 0} → Outlets F → Slot → Bool
+abbrev pub is_begun_in : {F : Type 0} → Slots F → Slot → Bool
 is_begun_in slots Spectra = is_some slots.spectra
 is_begun_in slots Profile = is_some slots.profile
 is_begun_in slots CertIn = is_some slots.cert_in
 is_begun_in slots Report = is_started slots.report
 is_begun_in slots CertOut = is_started slots.cert_out
 
-abbrev pub is_finished_in : {F : Type 0} → Outlets F → Slot → Bool
+abbrev pub is_finished_in : {F : Type 0} → Slots F → Slot → Bool
 is_finished_in slots Spectra = false
 is_finished_in slots Profile = false
 is_finished_in slots CertIn = false
@@ -40,7 +40,7 @@ ended_is_started Fresh is = is
 ended_is_started (Open file) is = refl
 ended_is_started Finished is = refl
 
-pub finished_in_is_begun : {F : Type 0} (slots : Outlets F) (slot : Slot) → is_finished_in slots slot ≡ true → is_begun_in slots slot ≡ true
+pub finished_in_is_begun : {F : Type 0} (slots : Slots F) (slot : Slot) → is_finished_in slots slot ≡ true → is_begun_in slots slot ≡ true
 finished_in_is_begun slots Spectra is = absurd cc
 finished_in_is_begun slots Profile is = absurd cc
 finished_in_is_begun slots CertIn is = absurd cc

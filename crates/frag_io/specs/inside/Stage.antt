@@ -1,7 +1,7 @@
 -- How far a slot of a desk in memory has come, and which file it is read from.
-use Rattle.std.specs.Prelude.{◌≡◌, refl, ℕ, Bool, true, false, List, [], drop, Option, Some, None, Vec, String, string_bytes, slice_get, find, option_map}
-use Rattle.std.specs.Str.{bytes_eq}
+use Rattle.std.specs.Prelude.{◌≡◌, refl, ℕ, Bool, true, false, List, [], drop, Option, Some, None, Vec, String, slice_get}
 use Rattle.std.specs.declared.alloc.Global.{Global}
+use Rattle.frag_io.specs.Files.{Files}
 use Rattle.frag_io.specs.declared.stage.Source.{Source}
 use Rattle.frag_io.specs.declared.stage.Stage.{Stage}
 use Rattle.frag_io.specs.declared.stage.Stage.TheVariants.{Fresh, Reading, Writing, Finished}
@@ -17,17 +17,6 @@ is_finished Fresh = false
 is_finished (Reading source) = false
 is_finished Writing = false
 is_finished Finished = true
-
--- files, each a name and its bytes
-abbrev pub Files : Type 0
-Files = List (String Global × Vec ℕ Global)
-
-abbrev pub is_named : List ℕ → String Global × Vec ℕ Global → Bool
-is_named name file = bytes_eq (string_bytes file.0) name
-
--- the bytes of the first file of a name
-abbrev pub bytes_under : Files → List ℕ → Option (List ℕ)
-bytes_under files name = option_map (λ file. file.1.items) (find (is_named name) files)
 
 -- what a file has behind its first bytes
 abbrev pub rest_in : Option (String Global × Vec ℕ Global) → ℕ → List ℕ
