@@ -1,5 +1,6 @@
 -- What the calls of a desk do to its state, and which fault has which cause.
-use Rattle.std.specs.Prelude.{◌≡◌, ◌≤◌, ◌++◌, ℕ, Bool, true, false, List, [], take, Option, Some, None, Result, Ok, Err, IfSome, IsErrOf, if◌then◌else◌}
+use Rattle.std.specs.Prelude.{◌≡◌, ◌≤◌, ◌++◌, ℕ, Bool, true, false, if◌then◌else◌, List, [], take}
+use Rattle.std.specs.Prelude.{Option, Some, None, Result, Ok, Err, IfSome, IsErrOf}
 use Rattle.frag_io.specs.declared.desk.Slot.{Slot}
 use Rattle.frag_io.specs.declared.desk.DeskFault.{DeskFault}
 use Rattle.frag_io.specs.declared.desk.DeskFault.TheVariants.{Failed, OutOfMemory}

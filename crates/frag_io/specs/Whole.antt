@@ -16,9 +16,10 @@ abbrev pub greatest_piece : ℕ
 greatest_piece = 65536
 
 -- A text was read as a whole: what was read of it and what is left make it up, an `Ok` has read all of it and hands
--- it out, it is too long exactly where more than the limit was read, and no more than 65,536 bytes
--- are read past the limit.
-pub record ReadsWhole (limit : ℕ) (left : Option (List ℕ)) (result : Result (Vec ℕ Global) ReadWhole) (text : List ℕ) : Type 0 where
+-- it out, it is too long exactly where more than the limit was read, and no more than 65,536 bytes are read past the
+-- limit.
+pub record ReadsWhole (limit : ℕ) (left : Option (List ℕ)) (result : Result (Vec ℕ Global) ReadWhole) (text : List ℕ)
+    : Type 0 where
   pub read : List ℕ
   pub rest : List ℕ
   pub parts : text ≡ read ++ rest

@@ -32,6 +32,19 @@ impl<T: Drop> BySlot<Option<T>> {
 }
 
 impl<T: Drop> BySlot<T> {
+    /// The value at a slot, where it stands.
+    pub(crate) fn get(&self, slot: Slot) -> &T
+        ensures { result.now ≡ at self.now slot }
+    {
+        match slot {
+            Slot::Spectra => &self.spectra,
+            Slot::Profile => &self.profile,
+            Slot::CertIn => &self.cert_in,
+            Slot::Report => &self.report,
+            Slot::CertOut => &self.cert_out,
+        }
+    }
+
     /// Puts a value at a slot.
     pub(crate) fn put(&mut self, slot: Slot, value: T)
         ensures own { at self.new slot ≡ value }

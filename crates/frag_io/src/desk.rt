@@ -1,6 +1,7 @@
 //! The outside of a run, as five slots of bytes. What a file or a terminal really does is beyond any proof; what a
 //! run asks of it, and which fault of it a run tells, is stated here.
-ghost use Rattle.std.specs.Prelude.{◌≡◌, ◌≢◌, ◌≤◌, ◌<◌, ◌^◌, ◌↔◌, true, false, [], length, take, IfSome, IfOk, OnOk, OnErr};
+ghost use Rattle.std.specs.Prelude.{◌≡◌, ◌≢◌, ◌≤◌, ◌<◌, ◌^◌, ◌↔◌, [], length, take};
+ghost use Rattle.std.specs.Prelude.{true, false, IfSome, IfOk, OnOk, OnErr};
 ghost use Rattle.frag_io.specs.declared.desk.Slot.{Slot};
 ghost use Rattle.frag_io.specs.declared.desk.Slot.TheVariants.{Report};
 ghost use Rattle.frag_io.specs.Slot.{IsRead, IsWritten, Same};

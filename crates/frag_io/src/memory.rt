@@ -1,10 +1,11 @@
 //! A desk in memory: files by name, what was written, and calls that fail as planned.
-ghost use Rattle.std.specs.Prelude.{◌≡◌, ◌≢◌, ◌≤◌, ◌<◌, ◌↔◌, ◌⊎◌, take, ℕ, List, false, None, Some, [], ◌++◌, length, min, IfOk, OnOk, OnErr, IsTrue, IfSome, true};
+ghost use Rattle.std.specs.Prelude.{◌≡◌, ◌≢◌, ◌≤◌, ◌<◌, ◌↔◌, ◌⊎◌, ◌++◌, ℕ, List, [], length, take};
+ghost use Rattle.std.specs.Prelude.{min, false, true, None, Some, option_map, IfOk, IfSome, IsTrue, OnOk, OnErr};
 ghost use Rattle.frag_io.specs.declared.desk.Slot.{Slot};
 ghost use Rattle.frag_io.specs.Slot.{IsRead, IsWritten, SameBut, Same};
-ghost use Rattle.frag_io.specs.inside.BySlot.{at};
 ghost use Rattle.frag_io.specs.Failing.{IsDue, CountsCall};
 ghost use Rattle.frag_io.specs.Files.{bytes_under};
+ghost use Rattle.frag_io.specs.inside.BySlot.{at};
 
 use crate::by_slot::BySlot;
 use crate::failing::Plan;
@@ -69,6 +70,16 @@ impl MemoryDesk {
             (_, Slot::Report) => &self.report,
             (_, Slot::CertOut) => &self.cert_out,
             _ => &[],
+        }
+    }
+
+    /// The name under which a slot was begun; none, where it was not.
+    pub fn name(&self, slot: Slot) -> Option<&str>
+        ensures { (state_of self.now).names slot ≡ option_map (λ name. name.now) result }
+    {
+        match self.names.get(slot) {
+            Some(name) => Some(name.as_str()),
+            None => None,
         }
     }
 

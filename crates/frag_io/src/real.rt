@@ -1,6 +1,7 @@
 //! A desk over the files and the standard output of a runtime. What these do is beyond any proof: here stands only what
 //! is asked of them, and how their errors are counted.
-ghost use Rattle.std.specs.Prelude.{◌≡◌, ◌≢◌, ◌≤◌, ◌<◌, ◌↔◌, true, false, [], length, take, IfOk, IfSome, OnOk, OnErr, IsSome};
+ghost use Rattle.std.specs.Prelude.{◌≡◌, ◌≢◌, ◌≤◌, ◌<◌, ◌↔◌, [], length, take};
+ghost use Rattle.std.specs.Prelude.{true, false, IfOk, IfSome, IsSome, OnOk, OnErr};
 ghost use Rattle.std.specs.IoError.{error_kind};
 ghost use Rattle.frag_io.specs.declared.desk.Slot.{Slot};
 ghost use Rattle.frag_io.specs.Slot.{SameBut, Same, Gains};
@@ -21,7 +22,9 @@ use std::{fs, io};
 enum Outlet<F> {
     /// It was not begun.
     Fresh,
+    /// It is open.
     Open(F),
+    /// It was ended.
     Finished,
 }
 
@@ -159,7 +162,8 @@ impl<R: Files + Print> Desk for RealDesk<'_, R> {
         ensures begun { AddsOnOk slot (state_of self.old.slots).begun (state_of self.new.slots).begun result }
         ensures finished { Same (state_of self.old.slots).finished (state_of self.new.slots).finished }
         ensures named { OnOk result (IsNamed slot name.now (state_of self.new.slots)) }
-        ensures left { OnOk result (IsRead slot → (state_of self.new.slots).left slot ≡ (state_of self.old.slots).gives name.now) }
+        ensures left { OnOk result (IsRead slot
+            → (state_of self.new.slots).left slot ≡ (state_of self.old.slots).gives name.now) }
         ensures written { OnOk result (IsWritten slot → IsEmpty ((state_of self.new.slots).written slot)) }
         ensures keeps { Keeps slot (state_of self.old.slots) (state_of self.new.slots) }
         ensures faults { CountsFault slot (state_of self.old.slots) (state_of self.new.slots) result }
@@ -189,13 +193,13 @@ impl<R: Files + Print> Desk for RealDesk<'_, R> {
         ensures cause { HasCause slot (state_of self.old.slots) (state_of self.new.slots) result }
         ensures takes_no_memory { result ≢ Err DeskFault.OutOfMemory }
     {
-        let outcome = match slot {
+        let moved = match slot {
             Slot::Spectra => read_from(&mut self.slots.spectra, buffer),
             Slot::Profile => read_from(&mut self.slots.profile, buffer),
             Slot::CertIn => read_from(&mut self.slots.cert_in, buffer),
             _ => unreachable!(),
         };
-        match outcome {
+        match moved {
             Ok(n) => Ok(n),
             Err(_) => Err(self.slots.faults.fail(slot)),
         }
@@ -206,10 +210,12 @@ impl<R: Files + Print> Desk for RealDesk<'_, R> {
         requires begun { (state_of self.old.slots).begun slot ≡ true }
         requires unfinished { (state_of self.old.slots).finished slot ≡ false }
         ensures appended { IfOk result (λ n.
-            (state_of self.new.slots).written slot ≡ appended ((state_of self.old.slots).written slot) (take n bytes.now)) }
+            (state_of self.new.slots).written slot
+            ≡ appended ((state_of self.old.slots).written slot) (take n bytes.now)) }
         ensures fits { IfOk result (λ n. n ≤ length bytes.now) }
         ensures some { IfOk result (λ n. bytes.now ≢ [] → 0 < n) }
-        ensures unwritten { OnErr result ((state_of self.new.slots).written slot ≡ (state_of self.old.slots).written slot) }
+        ensures unwritten { OnErr result
+            ((state_of self.new.slots).written slot ≡ (state_of self.old.slots).written slot) }
         ensures begun { Same (state_of self.old.slots).begun (state_of self.new.slots).begun }
         ensures finished { Same (state_of self.old.slots).finished (state_of self.new.slots).finished }
         ensures names { Same (state_of self.old.slots).names (state_of self.new.slots).names }
@@ -217,19 +223,19 @@ impl<R: Files + Print> Desk for RealDesk<'_, R> {
         ensures faults { CountsFault slot (state_of self.old.slots) (state_of self.new.slots) result }
         ensures cause { HasCause slot (state_of self.old.slots) (state_of self.new.slots) result }
     {
-        let outcome = match slot {
+        let taken = match slot {
             Slot::Report => self.rt.write_some(bytes),
             Slot::CertOut => write_to(&mut self.slots.cert_out, bytes),
             _ => unreachable!(),
         };
-        match outcome {
+        match taken {
             Ok(0) if !bytes.is_empty() => Err(self.slots.faults.fail(slot)),
             Ok(n) => Ok(n),
             Err(error) => Err(self.refuse(slot, &error)),
         }
     }
 
-    /// The standard output keeps nothing back that would have to be flushed.
+    // The standard output keeps nothing back that would have to be flushed.
     fn finish(&mut self, slot: Slot) -> Result<(), DeskFault>
         requires written { IsWritten slot }
         requires begun { (state_of self.old.slots).begun slot ≡ true }
@@ -243,7 +249,7 @@ impl<R: Files + Print> Desk for RealDesk<'_, R> {
         ensures cause { HasCause slot (state_of self.old.slots) (state_of self.new.slots) result }
         ensures takes_no_memory { result ≢ Err DeskFault.OutOfMemory }
     {
-        let outcome = match slot {
+        let ended = match slot {
             Slot::Report => {
                 self.slots.report = Outlet::Finished;
                 Ok(())
@@ -251,7 +257,7 @@ impl<R: Files + Print> Desk for RealDesk<'_, R> {
             Slot::CertOut => end(&mut self.slots.cert_out),
             _ => unreachable!(),
         };
-        match outcome {
+        match ended {
             Ok(()) => Ok(()),
             Err(_) => Err(self.slots.faults.fail(slot)),
         }

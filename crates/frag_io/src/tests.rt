@@ -1,5 +1,6 @@
-ghost use Rattle.std.specs.Prelude.{◌≡◌, ◌<◌, false, length, IfOk};
+ghost use Rattle.std.specs.Prelude.{◌≡◌, ◌<◌, true, false, length, IfOk};
 ghost use Rattle.frag_io.specs.declared.desk.Slot.{Slot};
+ghost use Rattle.frag_io.specs.Slot.{IsRead, Same};
 
 use super::*;
 use std::alloc::{AllocError, Global};
@@ -7,7 +8,7 @@ use std::fs;
 use std::process::Abort;
 use std::test::Fail;
 
-// Copies the text of a name, of at most `limit` bytes, to `copy.txt`.
+/// Copies the text of a name, of at most `limit` bytes, to `copy.txt`.
 fn copy<D: Desk>(alloc: Global, desk: &mut D, name: &str, limit: usize) -> Result<(), ReadWhole>
     requires unbegun { (slot : Slot) → (D.state desk.old).begun slot ≡ false }
     requires unfinished { (slot : Slot) → (D.state desk.old).finished slot ≡ false }
@@ -20,7 +21,7 @@ fn copy<D: Desk>(alloc: Global, desk: &mut D, name: &str, limit: usize) -> Resul
     Ok(())
 }
 
-// What the first read of a name takes.
+/// What the first read of a name takes.
 fn read_once<D: Desk>(
     alloc: Global,
     desk: &mut D,
@@ -34,7 +35,7 @@ fn read_once<D: Desk>(
     desk.read(Slot::CertIn, buffer)
 }
 
-// What the first write takes of some bytes.
+/// What the first write takes of some bytes.
 fn write_once<D: Desk>(alloc: Global, desk: &mut D, bytes: &[u8]) -> Result<usize, DeskFault>
     requires unbegun { (slot : Slot) → (D.state desk.old).begun slot ≡ false }
     requires unfinished { (slot : Slot) → (D.state desk.old).finished slot ≡ false }
@@ -43,11 +44,13 @@ fn write_once<D: Desk>(alloc: Global, desk: &mut D, bytes: &[u8]) -> Result<usiz
     desk.write(alloc, Slot::Report, bytes)
 }
 
-// A desk over three files, of which two have one name.
+/// A desk over three files, of which two have one name.
 fn desk(alloc: Global, failing: &[Failing], piece: usize) -> Result<MemoryDesk, AllocError>
     requires { 0 < piece }
-    ensures unbegun { IfOk result (λ desk. (slot : Slot) → (⟦<MemoryDesk as Desk>⟧.state desk).begun slot ≡ false) }
-    ensures unfinished { IfOk result (λ desk. (slot : Slot) → (⟦<MemoryDesk as Desk>⟧.state desk).finished slot ≡ false) }
+    ensures unbegun { IfOk result (λ desk. (slot : Slot)
+        → (⟦<MemoryDesk as Desk>⟧.state desk).begun slot ≡ false) }
+    ensures unfinished { IfOk result (λ desk. (slot : Slot)
+        → (⟦<MemoryDesk as Desk>⟧.state desk).finished slot ≡ false) }
 {
     let mut files = Vec::new(alloc);
     for (name, bytes) in [("a.mgf", "abc"), ("b.toml", ""), ("a.mgf", "second")] {
@@ -57,7 +60,7 @@ fn desk(alloc: Global, failing: &[Failing], piece: usize) -> Result<MemoryDesk, 
     Ok(MemoryDesk::new(alloc, files, failing.to_vec(alloc)?, piece))
 }
 
-// A copy, of which one call is to fail: what it answers, the faults of the text and of the copy, and the copy.
+/// A copy, of which one call is to fail: what it answers, the faults of the text and of the copy, and the copy.
 #[derive(Clone, Copy)]
 struct Case {
     name: &'static str,
@@ -137,7 +140,7 @@ fn a_copy_fails_where_it_is_planned(rt: HostRuntime) -> Result<(), Fail> {
     Ok(())
 }
 
-// A first read of two bytes and a first write of three, in pieces.
+/// A first read of two bytes and a first write of three, in pieces.
 fn moves(
     rt: &impl Abort,
     alloc: Global,
@@ -159,6 +162,9 @@ fn moves(
     let mut copying = desk(alloc, &[], piece)?;
     copy(alloc, &mut copying, "a.mgf", 3)?;
     assert_eq!(rt; copying.written(Slot::CertOut), b"abc".as_slice());
+    assert_eq!(rt; copying.name(Slot::Spectra), Some("a.mgf"));
+    assert_eq!(rt; copying.name(Slot::CertOut), Some("copy.txt"));
+    assert_eq!(rt; copying.name(Slot::Report), None);
     Ok(())
 }
 
@@ -180,5 +186,52 @@ fn a_real_file_is_copied(rt: HostRuntime) -> Result<(), Fail> {
     assert_eq!(rt; copied.as_str(), "BEGIN IONS\n");
     fs::remove_file(&rt, "text.txt")?;
     fs::remove_file(&rt, "copy.txt")?;
+    Ok(())
+}
+
+/// The text of a slot, of at most 100 bytes.
+fn text_of<D: Desk>(alloc: Global, desk: &mut D, slot: Slot) -> Result<String, Fail>
+    requires read { IsRead slot }
+    requires begun { (D.state desk.old).begun slot ≡ true }
+    ensures begun { Same (D.state desk.old).begun (D.state desk.new).begun }
+    ensures finished { Same (D.state desk.old).finished (D.state desk.new).finished }
+{
+    let bytes = read_whole(alloc, desk, slot, 100)?;
+    Ok(String::from_utf8(bytes)?)
+}
+
+/// What three slots give that were all begun before one is read, after a document was written.
+fn texts_of<D: Desk>(alloc: Global, desk: &mut D) -> Result<[String; 3], Fail>
+    requires unbegun { (slot : Slot) → (D.state desk.old).begun slot ≡ false }
+    requires unfinished { (slot : Slot) → (D.state desk.old).finished slot ≡ false }
+{
+    desk.begin(alloc, Slot::Spectra, "spectra.txt")?;
+    desk.begin(alloc, Slot::Profile, "profile.txt")?;
+    desk.begin(alloc, Slot::CertIn, "document.txt")?;
+    desk.begin(alloc, Slot::CertOut, "made.txt")?;
+    write_whole(alloc, desk, Slot::CertOut, b"made")?;
+    let document = text_of(alloc, desk, Slot::CertIn)?;
+    let profile = text_of(alloc, desk, Slot::Profile)?;
+    let spectra = text_of(alloc, desk, Slot::Spectra)?;
+    Ok([spectra, profile, document])
+}
+
+#[test]
+fn each_slot_has_a_file_of_its_own(rt: HostRuntime) -> Result<(), Fail> {
+    let read = ["spectra.txt", "profile.txt", "document.txt"];
+    for name in read {
+        fs::write(&rt, name, name)?;
+    }
+    let mut desk = RealDesk::new(&rt);
+    let texts = texts_of(rt.alloc(), &mut desk)?;
+    for (text, name) in texts.iter().zip(read) {
+        assert_eq!(rt; text.as_str(), name);
+        let kept = fs::read_to_string(&rt, name)?;
+        assert_eq!(rt; kept.as_str(), name);
+        fs::remove_file(&rt, name)?;
+    }
+    let made = fs::read_to_string(&rt, "made.txt")?;
+    assert_eq!(rt; made.as_str(), "made");
+    fs::remove_file(&rt, "made.txt")?;
     Ok(())
 }

@@ -40,7 +40,8 @@ ended_is_started Fresh is = is
 ended_is_started (Open file) is = refl
 ended_is_started Finished is = refl
 
-pub finished_in_is_begun : {F : Type 0} (slots : Slots F) (slot : Slot) → is_finished_in slots slot ≡ true → is_begun_in slots slot ≡ true
+pub finished_in_is_begun : {F : Type 0} (slots : Slots F) (slot : Slot)
+    → is_finished_in slots slot ≡ true → is_begun_in slots slot ≡ true
 finished_in_is_begun slots Spectra is = absurd cc
 finished_in_is_begun slots Profile is = absurd cc
 finished_in_is_begun slots CertIn is = absurd cc

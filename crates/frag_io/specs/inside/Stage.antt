@@ -1,5 +1,6 @@
 -- How far a slot of a desk in memory has come, and which file it is read from.
-use Rattle.std.specs.Prelude.{◌≡◌, refl, ℕ, Bool, true, false, List, [], drop, Option, Some, None, Vec, String, slice_get}
+use Rattle.std.specs.Prelude.{◌≡◌, refl, ℕ, Bool, true, false, List, [], drop, slice_get}
+use Rattle.std.specs.Prelude.{Option, Some, None, Vec, String}
 use Rattle.std.specs.declared.alloc.Global.{Global}
 use Rattle.frag_io.specs.Files.{Files}
 use Rattle.frag_io.specs.declared.stage.Source.{Source}
