@@ -1,2 +1,2 @@
 pub mod Parity
-pub mod Sieve
+pub mod Test

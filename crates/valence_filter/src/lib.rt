@@ -7,4 +7,4 @@ mod sieve;
 mod tests;
 
 pub use rule::{Parity, Rule, all_hold, fragment_rule, neutral_rule};
-pub use sieve::Sieve;
+pub use sieve::{Sieve, Test};

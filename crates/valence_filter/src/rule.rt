@@ -1,10 +1,12 @@
 //! A rule over the counts of a formula, and the two rules that every run has.
-ghost use Rattle.std.specs.Prelude.{◌≡◌, ◌≤◌, ◌*◌, ◌*ℤ◌, ◌<◌, ◌↔◌, IsTrue, length, pos, slice_index_or};
-ghost use Rattle.element_table.specs.Rule.{Holds, IsNearZero, Passes, bond_coefficients, fragment_rule_of, neutral_rule_of, value_of};
+ghost use Rattle.std.specs.Prelude.{◌≡◌, ◌≤◌, ◌*◌, ◌*ℤ◌, ◌<◌, ◌↔◌, IsTrue, pos, slice_index_or};
+ghost use Rattle.element_table.specs.Elements.{element_count, greatest_count};
+ghost use Rattle.element_table.specs.Rule.{Holds, IsNearZero, Passes};
+ghost use Rattle.element_table.specs.Rule.{bond_coefficients, fragment_rule_of, neutral_rule_of, value_of};
 ghost use Rattle.element_table.specs.Listed.{has_parity, holds, passes};
 ghost use Rattle.valence_filter.specs.Parity.{parity_of};
 
-use element_table::{ELEMENTS, FORMULA_PLACES, Formula, GREATEST_COUNT};
+use element_table::{ELEMENTS, FORMULA_PLACES, Formula};
 use std::marker::Model;
 
 /// Which whole numbers a rule takes.
@@ -15,8 +17,9 @@ pub enum Parity {
     Odd,
 }
 
-/// A rule over the counts of a formula: the constant and the sum of each coefficient times the count at its place make a
-/// number that is at least 0 and has the parity. Each coefficient is within 1,000 of 0, the constant within 1,000,000.
+/// A rule over the counts of a formula: the constant and the sum of each coefficient times the count at its place make
+/// a number that is at least 0 and has the parity. Each coefficient is within 1,000 of 0, the constant within
+/// 1,000,000.
 #[derive(Clone, Copy, Debug, PartialEq, Eq)]
 pub struct Rule {
     pub coefficients: [i32; FORMULA_PLACES],
@@ -31,15 +34,27 @@ impl Model for Rule {
 
     ghost use Rattle.valence_filter.specs.Parity.{parity_of, seen_as, seen_as-parity_of};
 
-    ghost view = { λ rule. record { coefficients = rule.coefficients; constant = rule.constant; parity = parity_of rule.parity } };
+    ghost view = { λ rule. record {
+      coefficients = rule.coefficients;
+      constant = rule.constant;
+      parity = parity_of rule.parity;
+    } };
 
-    ghost invariant = { λ rule. spec.IsRule (record { coefficients = rule.coefficients; constant = rule.constant; parity = parity_of rule.parity }) };
+    ghost invariant = { λ rule. spec.IsRule (record {
+      coefficients = rule.coefficients;
+      constant = rule.constant;
+      parity = parity_of rule.parity;
+    }) };
 
-    ghost inverse = { λ rule. record { coefficients = rule.coefficients; constant = rule.constant; parity = seen_as rule.parity } };
+    ghost inverse = { λ rule. record {
+      coefficients = rule.coefficients;
+      constant = rule.constant;
+      parity = seen_as rule.parity;
+    } };
 }
 
 impl Parity {
-    // Whether a number has this parity.
+    /// Whether a number has this parity.
     fn has(self, number: i64) -> bool
         ensures { result ≡ has_parity (parity_of self) number }
     {
@@ -61,7 +76,7 @@ impl Rule {
         value >= 0 && self.parity.has(value)
     }
 
-    // The number that the rule makes of a formula.
+    /// The number that the rule makes of a formula.
     fn value(&self, formula: &Formula) -> i64
         ensures { result ≡ value_of self.now formula.now }
     {
@@ -73,17 +88,17 @@ impl Rule {
     }
 }
 
-// What so many atoms add to a rule's number.
+/// What so many atoms add to a rule's number.
 fn contribution(coefficient: i32, count: u16) -> i64
     requires near { IsNearZero 1000 coefficient }
-    requires capped { count ≤ GREATEST_COUNT }
+    requires capped { count ≤ greatest_count }
     ensures product { result ≡ coefficient *ℤ pos count }
     ensures near { IsNearZero (1000 * 1999) result }
 {
     i64::from(coefficient) * i64::from(count)
 }
 
-// What an atom adds to twice the ring and double bond equivalent, by places.
+/// What an atom adds to twice the ring and double bond equivalent, by places.
 fn bond_numbers() -> [i32; FORMULA_PLACES]
     ensures { result ≡ bond_coefficients }
 {
@@ -94,9 +109,9 @@ fn bond_numbers() -> [i32; FORMULA_PLACES]
     numbers
 }
 
-// The same for the element at a place.
+/// The same for the element at a place.
 fn bond_number(place: usize) -> i32
-    requires { place < length ELEMENTS }
+    requires { place < element_count }
     ensures { result ≡ slice_index_or bond_coefficients place (pos 0) }
 {
     i32::from(ELEMENTS[place].2) - 2

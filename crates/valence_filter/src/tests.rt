@@ -1,6 +1,5 @@
 //! Worked examples of rules and sieves.
 ghost use Rattle.std.specs.Prelude.{◌≡◌, ◌≤◌, ◌↔◌, IfOk, IsTrue};
-ghost use Rattle.element_table.specs.Listed.{passes};
 ghost use Rattle.element_table.specs.Rule.{Passes};
 
 use crate::{Parity, Rule, Sieve, all_hold, fragment_rule, neutral_rule};
@@ -23,9 +22,8 @@ fn formula(carbon: u16, hydrogen: u16, oxygen: u16) -> Formula
 fn sieved(alloc: Global, rules: &[Rule], formula: &Formula) -> Result<bool, AllocError>
     ensures { IfOk result (λ passed. IsTrue passed ↔ Passes rules.now formula.now) }
 {
-    let test = |formula: &Formula| -> bool
-        ensures { result ≡ passes rules.entry.now formula.entry.now }
-    { rules.iter().all(|rule| rule.holds(formula)) };
+    let kept = rules.to_vec(alloc)?;
+    let test = Box::new(alloc, move |formula: &Formula| all_hold(&kept, formula))?;
     let sieve = Sieve::new(rules.to_vec(alloc)?, test);
     Ok(sieve.passes(formula))
 }
@@ -40,11 +38,6 @@ fn passes_up_to_saturation(rt: HostRuntime) -> Result<(), AllocError> {
             passes,
             "at {hydrogen}"
         );
-        let sieve = Sieve::new(
-            rules.to_vec(rt.alloc())?,
-            |formula| all_hold(&rules, formula),
-        );
-        assert_eq!(rt; sieve.passes(&methane), passes, "at {hydrogen}");
     }
     Ok(())
 }
