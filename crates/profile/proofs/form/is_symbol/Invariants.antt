@@ -1,7 +1,6 @@
 use Rattle.std.proofs.Common.{◌≡◌, drop, map, bytes_eq}
 use Rattle.std.specs.List.{list_any}
-use Rattle.profile.specs.Form.{is_symbol}
 use Rattle.profile.proofs.form.is_symbol.Given as goal
 
 abbrev pub invariant-loop-symbol : goal.invariant-loop-symbol
-invariant-loop-symbol l = list_any (bytes_eq l.key) (map (λ element. element.0.now) (drop l.symbol-index l.symbol-items)) ≡ is_symbol l.key
+invariant-loop-symbol l = list_any (bytes_eq l.key) (map (λ element. element.0.now) (drop l.symbol-index l.symbol-items)) ≡ list_any (bytes_eq l.key) (map (λ element. element.0.now) l.symbol-items)
