@@ -10,8 +10,8 @@ use Rattle.element_table.specs.Formula.{IsWithin, mass_of}
 use Rattle.element_table.specs.Rule.{Rule, Passes}
 use Rattle.formula_lister.specs.declared.chosen.Bounds.{Bounds}
 use Rattle.formula_lister.specs.declared.element.Element.{Element}
-use Rattle.formula_lister.specs.Counting.{Completes, Gains, Overfills, IsOne, IsReady}
-use Rattle.formula_lister.specs.Elements.{AreElements, IsUncounted, NoneChosen, reach_of}
+use Rattle.formula_lister.specs.inside.Counting.{Completes, Gains, Overfills, IsOne, IsReady}
+use Rattle.formula_lister.specs.inside.Elements.{AreElements, IsUncounted, NoneChosen, reach_of}
 use Rattle.formula_lister.proofs.Gaining.{Gains-more, Overfills-later}
 use Rattle.formula_lister.proofs.WeightedSum.{weighted_sum-set}
 

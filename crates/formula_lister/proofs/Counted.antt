@@ -8,7 +8,7 @@ use Rattle.std.specs.List.{AllByRecursion}
 use Rattle.element_table.specs.Elements.{masses}
 use Rattle.element_table.specs.Formula.{IsFormula}
 use Rattle.formula_lister.specs.declared.element.Element.{Element}
-use Rattle.formula_lister.specs.Elements.{AreElements, IsUncounted, reach_of}
+use Rattle.formula_lister.specs.inside.Elements.{AreElements, IsUncounted, reach_of}
 
 -- the elements of positive limit below a place
 pub record AreCounted (limits : List ℕ) (place after : ℕ) (elements : List Element) : Type 0 where

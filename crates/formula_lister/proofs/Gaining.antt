@@ -4,8 +4,8 @@ use Rattle.std.proofs.lemmas.List.{append-nil}
 use Rattle.std.proofs.lemmas.List.Elements.{All-append, Contains-get_or, Contains-append_left, Contains-append_right, Contains-append_cases}
 use Rattle.std.proofs.lemmas.List.Kept.{AllPairs-cons}
 use Rattle.std.specs.List.{AllPairs, Contains}
-use Rattle.formula_lister.specs.declared.outcome.TheConstants.{MOST_FORMULAS}
-use Rattle.formula_lister.specs.Counting.{Gains, Overfills}
+use Rattle.element_table.specs.FormulaList.{greatest_list}
+use Rattle.formula_lister.specs.inside.Counting.{Gains, Overfills}
 
 Contains-cons : {X : Type 0} (x y : X) (xs : List X) → Contains xs y → Contains (x ∷ xs) y
 Contains-cons x y xs h = (suc h.0, omega (arith, h.1), h.2)
@@ -70,7 +70,7 @@ Gains-as P Q before now g to from = record {
 }
 
 -- one more after a list that has as many as it may
-pub Overfills-one : (P : List ℕ → Type 0) (before : List (List ℕ)) (one : List ℕ) → MOST_FORMULAS ≤ length before → P one → Overfills P before
+pub Overfills-one : (P : List ℕ → Type 0) (before : List (List ℕ)) (one : List ℕ) → greatest_list ≤ length before → P one → Overfills P before
 unfolding Gains-one
 Overfills-one P before one full new = record {
   found = one ∷ [];

@@ -11,9 +11,9 @@ use Rattle.element_table.specs.Rule.{Rule}
 use Rattle.element_table.specs.Window.{InWindow, Window}
 use Rattle.formula_lister.specs.declared.chosen.Bounds.{Bounds}
 use Rattle.formula_lister.specs.declared.element.Element.{Element}
-use Rattle.formula_lister.specs.declared.outcome.TheConstants.{MOST_FORMULAS}
-use Rattle.formula_lister.specs.Counting.{IsCandidate, IsReady, Completes, Gains, Overfills}
-use Rattle.formula_lister.specs.Elements.{AreElements, IsUncounted, NoneChosen}
+use Rattle.element_table.specs.FormulaList.{greatest_list}
+use Rattle.formula_lister.specs.inside.Counting.{IsCandidate, IsReady, Completes, Gains, Overfills}
+use Rattle.formula_lister.specs.inside.Elements.{AreElements, IsUncounted, NoneChosen}
 use Rattle.formula_lister.proofs.Fitting.{length-le_from_members}
 
 zeros : (xs : List ℕ) (k : ℕ) → AllByRecursion (λ x. x ≡ 0) xs → slice_index xs k ≡ 0
@@ -81,7 +81,7 @@ listed window limits rules bounds elements gained sorted are g moved rises =
       );
     }
 
-pub too_many_listed : (window : Window) (limits : List ℕ) (rules : List Rule) (bounds : Bounds) (elements : List Element) (formulas : List (List ℕ)) → AreOf window limits bounds elements → Overfills (Completes bounds rules elements empty_formula) [] → Listed window limits rules formulas → MOST_FORMULAS < length formulas
+pub too_many_listed : (window : Window) (limits : List ℕ) (rules : List Rule) (bounds : Bounds) (elements : List Element) (formulas : List (List ℕ)) → AreOf window limits bounds elements → Overfills (Completes bounds rules elements empty_formula) [] → Listed window limits rules formulas → greatest_list < length formulas
 too_many_listed window limits rules bounds elements formulas are h list =
     omega (
       arith,

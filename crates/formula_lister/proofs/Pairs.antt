@@ -6,7 +6,7 @@ use Rattle.element_table.specs.Formula.{mass_of}
 use Rattle.element_table.specs.Rule.{Rule}
 use Rattle.formula_lister.specs.declared.chosen.Bounds.{Bounds}
 use Rattle.formula_lister.specs.declared.element.Element.{Element}
-use Rattle.formula_lister.specs.Counting.{Completes, IsLeftOver, IsOne, IsReady, IsRest}
+use Rattle.formula_lister.specs.inside.Counting.{Completes, IsLeftOver, IsOne, IsReady, IsRest}
 use Rattle.formula_lister.proofs.Completing.{Completes-feasible, Completes-itself, Completes-only_itself, Completes-set, Completes-unset, IsReady-inside, IsReady-set, mass-set}
 
 -- of a window that is narrower than an atom no two counts of the element are in reach

@@ -1,4 +1,1 @@
-pub mod Elements
-pub mod Weights
-pub mod Counting
-pub mod Most
+pub mod inside

@@ -2,8 +2,8 @@
 ghost use Rattle.std.specs.Prelude.{◌≡◌, ◌≤◌, ◌+◌, ◌*◌, ◌^◌, ◌↔◌, ◌+ℤ◌, ◌-ℤ◌, ◌≤ℤ◌, pos, ℕ, List, slice_index, slice_set, IfSome, IfNone};
 ghost use Rattle.element_table.specs.Formula.{empty_formula, mass_of};
 ghost use Rattle.element_table.specs.Window.{InWindow, greatest_half_width};
-ghost use Rattle.formula_lister.specs.Elements.{IsKnown};
-ghost use Rattle.formula_lister.specs.Weights.{IsWeighed};
+ghost use Rattle.formula_lister.specs.inside.Elements.{IsKnown};
+ghost use Rattle.formula_lister.specs.inside.Weights.{IsWeighed};
 
 use crate::element::Element;
 use adducts::Window;

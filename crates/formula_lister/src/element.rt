@@ -1,7 +1,7 @@
 //! The elements that are counted: those with a positive limit.
 ghost use Rattle.std.specs.Prelude.{◌≡◌, ◌≤◌, ◌<◌, ◌+◌, ◌*◌, ◌^◌, ◌↔◌, ℕ, length, slice_index, IfOk};
 ghost use Rattle.element_table.specs.Elements.{masses};
-ghost use Rattle.formula_lister.specs.Elements.{AreElements, IsUncounted, IsKnown};
+ghost use Rattle.formula_lister.specs.inside.Elements.{AreElements, IsUncounted, IsKnown};
 
 use element_table::{ELEMENTS, FORMULA_PLACES};
 use profile::Limits;

@@ -10,4 +10,4 @@ mod outcome;
 mod tests;
 
 pub use lister::list;
-pub use outcome::{ListFault, MOST_FORMULAS};
+pub use outcome::{GREATEST_LIST, ListFault};

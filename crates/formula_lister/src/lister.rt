@@ -1,12 +1,11 @@
 //! The list of a window.
 ghost use Rattle.std.specs.Prelude.{◌≡◌, ◌≤◌, ◌<◌, ◌^◌, ◌+ℤ◌, ◌≤ℤ◌, pos, Err, length, IfOk};
+ghost use Rattle.element_table.specs.FormulaList.{greatest_list};
 ghost use Rattle.element_table.specs.Listed.{Listed, listed_of};
 ghost use Rattle.element_table.specs.Window.{greatest_half_width};
-ghost use Rattle.valence_filter.specs.Sieve.{IsSieve, rules_of};
-ghost use Rattle.formula_lister.specs.Most.{most_formulas};
 
 use crate::chosen::{Bounds, Chosen};
-use crate::counting::list_from;
+use crate::counting::Lister;
 use crate::element::counted_elements;
 use crate::outcome::ListFault;
 use adducts::Window;
@@ -18,20 +17,19 @@ use valence_filter::Sieve;
 /// The formulas in a window whose counts are within the limits and which pass the sieve, each once, in formula order.
 /// Where they are more than 20,000, the answer is `TooMany`, as soon as one more is found. A window is at most
 /// 0.4 Da wide and ends at most at 10,000 Da.
-pub fn list<F: Fn(&Formula) -> bool>(
+pub fn list(
     alloc: Global,
     window: &Window,
     limits: &Limits,
-    sieve: &Sieve<F>,
+    sieve: &Sieve,
 ) -> Result<Vec<Formula>, ListFault>
-    requires sieve { IsSieve F.pre F.post sieve.now }
     requires light { (window.now.centre +ℤ pos window.now.half) ≤ℤ pos (10 ^ 11) }
     requires narrow { window.now.half ≤ greatest_half_width }
-    ensures list { IfOk result (λ formulas. Listed window.now limits.now (rules_of sieve.now) formulas.items) }
-    ensures filter { IfOk result (λ formulas. formulas.items ≡ listed_of window.now limits.now (rules_of sieve.now)) }
-    ensures few { IfOk result (λ formulas. length formulas.items ≤ most_formulas) }
+    ensures list { IfOk result (λ formulas. Listed window.now limits.now sieve.now.rules.items formulas.items) }
+    ensures filter { IfOk result (λ formulas. formulas.items ≡ listed_of window.now limits.now sieve.now.rules.items) }
+    ensures few { IfOk result (λ formulas. length formulas.items ≤ greatest_list) }
     ensures too_many { result ≡ Err ListFault.TooMany
-        → most_formulas < length (listed_of window.now limits.now (rules_of sieve.now)) }
+        → greatest_list < length (listed_of window.now limits.now sieve.now.rules.items) }
 {
     the_list_is_a_filter();
     sorted_formulas_rise();
@@ -40,13 +38,8 @@ pub fn list<F: Fn(&Formula) -> bool>(
     let Some(bounds) = Bounds::of(window, limits) else {
         return Ok(list);
     };
-    list_from(
-        &mut list,
-        sieve,
-        &bounds,
-        &Chosen::nothing(),
-        elements.as_slice(),
-    )?;
+    let lister = Lister { sieve, bounds };
+    lister.list_from(&mut list, &Chosen::nothing(), elements.as_slice())?;
     list.sort_unstable();
     Ok(list)
 }

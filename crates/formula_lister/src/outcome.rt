@@ -4,8 +4,8 @@ ghost use Rattle.formula_lister.specs.declared.outcome.ListFault.TheVariants.{Ou
 
 use std::alloc::{AllocError, AllocFailed};
 
-/// How many formulas a list may have.
-pub const MOST_FORMULAS: usize = 20_000;
+/// The greatest number of formulas of a list.
+pub const GREATEST_LIST: usize = 20_000;
 
 /// Why a list is not given.
 #[derive(Clone, Copy, Debug, PartialEq, Eq)]

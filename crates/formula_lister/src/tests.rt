@@ -1,5 +1,5 @@
 //! Lists of windows. The sizes are those of a search through all counts within the limits, by a program of its own.
-use crate::{ListFault, MOST_FORMULAS, list};
+use crate::{GREATEST_LIST, ListFault, list};
 use adducts::Window;
 use element_table::Formula;
 use profile::Limits;
@@ -19,7 +19,9 @@ fn listed(
         centre: centre.min(20_000_000_000),
         half: half.min(2_000_000),
     };
-    let sieve = Sieve::new(rules.to_vec(alloc)?, |formula| all_hold(rules, formula));
+    let kept = rules.to_vec(alloc)?;
+    let test = Box::new(alloc, move |formula: &Formula| all_hold(&kept, formula))?;
+    let sieve = Sieve::new(rules.to_vec(alloc)?, test);
     list(alloc, &window, limits, &sieve)
 }
 
@@ -47,7 +49,7 @@ fn refuses_a_crowded_window(rt: HostRuntime) {
 fn lists_as_many_as_a_list_may_have(rt: HostRuntime) -> Result<(), Fail> {
     // The formula next to the window is 454852 units from its centre.
     let list = listed(rt.alloc(), &crowded(), &[], 15_000_000_000, 454_851)?;
-    assert_eq!(rt; list.len(), MOST_FORMULAS);
+    assert_eq!(rt; list.len(), GREATEST_LIST);
     let refused = listed(rt.alloc(), &crowded(), &[], 15_000_000_000, 454_852);
     assert_eq!(rt; refused.err(), Some(ListFault::TooMany));
     Ok(())

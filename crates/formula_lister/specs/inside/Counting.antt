@@ -6,8 +6,8 @@ use Rattle.element_table.specs.Formula.{IsWithin, mass_of}
 use Rattle.element_table.specs.Rule.{Rule, Passes}
 use Rattle.formula_lister.specs.declared.chosen.Bounds.{Bounds}
 use Rattle.formula_lister.specs.declared.element.Element.{Element}
-use Rattle.formula_lister.specs.declared.outcome.TheConstants.{MOST_FORMULAS}
-use Rattle.formula_lister.specs.Elements.{AreElements, IsUncounted, NoneChosen}
+use Rattle.element_table.specs.FormulaList.{greatest_list}
+use Rattle.formula_lister.specs.inside.Elements.{AreElements, IsUncounted, NoneChosen}
 
 -- counts within the limits, to which those of some elements may be added
 pub record IsReady (bounds : Bounds) (elements : List Element) (chosen : List ℕ) : Type 0 where
@@ -58,4 +58,4 @@ pub record Overfills (IsNew : List ℕ → Type 0) (before : List (List ℕ)) : 
   pub found : List (List ℕ)
   pub members : (counts : List ℕ) → Contains found counts → IsNew counts
   pub distinct : AllPairs (λ first later. first ≢ later) found
-  pub too_many : MOST_FORMULAS < length before + length found
+  pub too_many : greatest_list < length before + length found

@@ -1,6 +1,5 @@
 use Rattle.std.proofs.lemmas.Result.{err_from_is_err_and}
-use Rattle.valence_filter.specs.Sieve.{rules_of}
-use Rattle.formula_lister.specs.Elements.{AreElements}
+use Rattle.formula_lister.specs.inside.Elements.{AreElements}
 use Rattle.formula_lister.proofs.Listing.{AreOf, IsReady-nothing, listed, none_listed, too_many_listed}
 use Rattle.formula_lister.proofs.lister.list.Goals as goal
 
@@ -14,7 +13,7 @@ pub returns-in_err-list_from-clause-too_many : goal.returns-in_err-list_from-cla
 returns-in_err-list_from-clause-too_many g c =
     let window = c.args.window.now in
     let limits = c.args.limits.now in
-    let rules = rules_of c.args.sieve.now in
+    let rules = c.args.sieve.now.rules.items in
     let bounds = c.in-Some.bounds in
     let elements = c.in_ok-elements.elements.items in
     let are : AreOf window limits bounds elements = record { limited = c.in-Some.ensures.limits; masses = c.in-Some.ensures.masses; others = c.in_ok-elements.ensures.others } in
@@ -28,7 +27,7 @@ pub returns-clause-list : goal.returns-clause-list
 returns-clause-list g c =
     let window = c.args.window.now in
     let limits = c.args.limits.now in
-    let rules = rules_of c.args.sieve.now in
+    let rules = c.args.sieve.now.rules.items in
     let bounds = c.in-Some.bounds in
     let elements = c.in_ok-elements.elements.items in
     let sorted = c.sort_unstable.new.self.items in
@@ -39,12 +38,12 @@ returns-clause-list g c =
     (λ formulas distinct moved. c.sorted_formulas_rise.ensures formulas sorted distinct moved c.sort_unstable.ensures.sorted)
 
 pub returns-in_default-clause-list : goal.returns-in_default-clause-list
-returns-in_default-clause-list g c = rw c.new-list.ensures.items (none_listed c.args.window.now c.args.limits.now (rules_of c.args.sieve.now) c.in_default.ensures.none)
+returns-in_default-clause-list g c = rw c.new-list.ensures.items (none_listed c.args.window.now c.args.limits.now (c.args.sieve.now.rules.items) c.in_default.ensures.none)
 
 pub returns-in_default-clause-filter : goal.returns-in_default-clause-filter
 returns-in_default-clause-filter g c =
-    c.the_list_is_a_filter.ensures.only_one c.args.window.now c.args.limits.now (rules_of c.args.sieve.now) c.new-list.result.items c.in_ok-elements.ensures.places (returns-in_default-clause-list g c)
+    c.the_list_is_a_filter.ensures.only_one c.args.window.now c.args.limits.now (c.args.sieve.now.rules.items) c.new-list.result.items c.in_ok-elements.ensures.places (returns-in_default-clause-list g c)
 
 pub returns-clause-filter : goal.returns-clause-filter
 returns-clause-filter g c =
-    c.the_list_is_a_filter.ensures.only_one c.args.window.now c.args.limits.now (rules_of c.args.sieve.now) c.sort_unstable.new.self.items c.in_ok-elements.ensures.places (returns-clause-list g c)
+    c.the_list_is_a_filter.ensures.only_one c.args.window.now c.args.limits.now (c.args.sieve.now.rules.items) c.sort_unstable.new.self.items c.in_ok-elements.ensures.places (returns-clause-list g c)

@@ -1,18 +1,17 @@
 use Rattle.std.proofs.Common.{◌≡◌, ◌+◌, ◌-◌, ◌*◌, ◌/◌, ◌%◌, ◌<◌, ◌∷◌, [], slice_index, slice_set, refl, arith}
 use Rattle.std.proofs.lemmas.Result.{err_from_is_err_and}
-use Rattle.valence_filter.specs.Sieve.{rules_of}
-use Rattle.formula_lister.specs.Counting.{Completes}
+use Rattle.formula_lister.specs.inside.Counting.{Completes}
 use Rattle.formula_lister.proofs.Gaining.{Gains-none, Gains-as}
 use Rattle.formula_lister.proofs.Completing.{CompletesBelow, Completes-feasible, Gains-more_counts, Overfills-at_count}
 use Rattle.formula_lister.proofs.Pairs.{IsLeftOver-more}
-use Rattle.formula_lister.proofs.counting.list_pairs.Goals as goal
+use Rattle.formula_lister.proofs.counting.Lister.list_pair.Goals as goal
 
 pub returns-then-first-end-clause-gains : goal.returns-then-first-end-clause-gains
 returns-then-first-end-clause-gains g c =
-    let bounds = c.args.bounds.now in
-    let rules = rules_of c.args.sieve.now in
-    let next = c.args.next.now in
-    let last = c.args.last.now in
+    let bounds = c.args.self.now.bounds in
+    let rules = c.args.self.now.sieve.now.rules.items in
+    let next = c.args.pair.now.next in
+    let last = c.args.pair.now.last in
     let chosen = c.args.chosen.now in
     Gains-none (Completes bounds rules (next ∷ last ∷ []) chosen.formula) c.args.list.now.items
     (λ counts h.
@@ -23,10 +22,10 @@ returns-then-first-end-clause-gains g c =
 
 pub loop-count-init : goal.loop-count-init
 loop-count-init g c =
-    let bounds = c.args.bounds.now in
-    let rules = rules_of c.args.sieve.now in
-    let next = c.args.next.now in
-    let last = c.args.last.now in
+    let bounds = c.args.self.now.bounds in
+    let rules = c.args.self.now.sieve.now.rules.items in
+    let next = c.args.pair.now.next in
+    let last = c.args.pair.now.last in
     let chosen = c.args.chosen.now in
     let light = ((c.count_end-end.ensures c.least_count-first.result).0 (omega arith)).1 in
     let heavy : 0 < last.mass = omega (arith, c.requires.ready.known.1.0.known.heavy) in
@@ -45,9 +44,9 @@ loop-count-init g c =
 
 pub list_last-requires-clause-left : goal.list_last-requires-clause-left
 list_last-requires-clause-left g c =
-    let bounds = c.args.bounds.now in
-    let next = c.args.next.now in
-    let last = c.args.last.now in
+    let bounds = c.args.self.now.bounds in
+    let next = c.args.pair.now.next in
+    let last = c.args.pair.now.last in
     let chosen = c.args.chosen.now in
     let count = c.loop-count.count in
     let allowed = (c.count_end-end.ensures count).0 c.loop-count-test.true in
@@ -58,10 +57,10 @@ list_last-requires-clause-left g c =
 
 pub loop-count-preserved : goal.loop-count-preserved
 loop-count-preserved g c =
-    let bounds = c.args.bounds.now in
-    let rules = rules_of c.args.sieve.now in
-    let next = c.args.next.now in
-    let last = c.args.last.now in
+    let bounds = c.args.self.now.bounds in
+    let rules = c.args.self.now.sieve.now.rules.items in
+    let next = c.args.pair.now.next in
+    let last = c.args.pair.now.last in
     let chosen = c.args.chosen.now in
     let count = c.loop-count.count in
     let allowed = (c.count_end-end.ensures count).0 c.loop-count-test.true in
@@ -79,22 +78,22 @@ loop-count-preserved g c =
 
 pub returns-in_err-list_last-clause-too_many : goal.returns-in_err-list_last-clause-too_many
 returns-in_err-list_last-clause-too_many g c =
-    let bounds = c.args.bounds.now in
-    let next = c.args.next.now in
-    let last = c.args.last.now in
+    let bounds = c.args.self.now.bounds in
+    let next = c.args.pair.now.next in
+    let last = c.args.pair.now.last in
     let chosen = c.args.chosen.now in
     let count = c.loop-count.count in
     let fault = err_from_is_err_and c.from_residual.result c.from_residual.ensures.1 in
     rw (fault.1, fault.2) (λ is.
-    Overfills-at_count bounds (rules_of c.args.sieve.now) next (last ∷ []) count chosen.formula (slice_set chosen.formula next.place count) c.args.list.now.items c.loop-count.list.items
+    Overfills-at_count bounds (c.args.self.now.sieve.now.rules.items) next (last ∷ []) count chosen.formula (slice_set chosen.formula next.place count) c.args.list.now.items c.loop-count.list.items
     c.requires.ready refl c.loop-count.invariant.gained (c.in_err-list_last.ensures.too_many is))
 
 pub returns-clause-gains : goal.returns-clause-gains
 returns-clause-gains g c =
-    let bounds = c.args.bounds.now in
-    let rules = rules_of c.args.sieve.now in
-    let next = c.args.next.now in
-    let last = c.args.last.now in
+    let bounds = c.args.self.now.bounds in
+    let rules = c.args.self.now.sieve.now.rules.items in
+    let next = c.args.pair.now.next in
+    let last = c.args.pair.now.last in
     let chosen = c.args.chosen.now in
     Gains-as (CompletesBelow bounds rules next (last ∷ []) chosen.formula c.loop-count.count) (Completes bounds rules (next ∷ last ∷ []) chosen.formula) c.args.list.now.items c.loop-count.list.items c.loop-count.invariant.gained
     (λ counts p. p.0)

@@ -1,17 +1,16 @@
 use Rattle.std.proofs.Common.{◌≡◌, List, ◌∷◌, slice_index, slice_set, subst, sym, arith}
 use Rattle.std.proofs.lemmas.Result.{err_from_is_err_and}
-use Rattle.valence_filter.specs.Sieve.{rules_of}
 use Rattle.element_table.specs.Formula.{mass_of}
 use Rattle.formula_lister.specs.declared.element.Element.{Element}
-use Rattle.formula_lister.specs.Counting.{Completes, Gains, Overfills, IsReady}
+use Rattle.formula_lister.specs.inside.Counting.{Completes, Gains, Overfills, IsReady}
 use Rattle.formula_lister.proofs.Completing.{CompletesBelow, Completes-feasible, Gains-more_counts, IsReady-set, Overfills-at_count, mass-set}
 use Rattle.formula_lister.proofs.Gaining.{Gains-as, Gains-none}
-use Rattle.formula_lister.proofs.counting.+list_from.Goals as goal
+use Rattle.formula_lister.proofs.counting.Lister.+list_from.Goals as goal
 
 pub loop-count-init : goal.loop-count-init
 loop-count-init g t c =
-    let bounds = c.args.bounds.now in
-    let rules = rules_of c.args.sieve.now in
+    let bounds = c.args.self.now.bounds in
+    let rules = c.args.self.now.sieve.now.rules.items in
     let first = c.in-Some.first.now in
     let others = c.in-Some.others.now in
     let chosen = c.args.chosen.now in
@@ -29,8 +28,8 @@ pub with-requires-clause-within_limit : goal.with-requires-clause-within_limit
 with-requires-clause-within_limit g t c = ((c.count_end-count-end.ensures c.loop-count.count).0 c.loop-count-test.true).0
 
 pub list_from-requires : goal.list_from-requires
-list_from-requires g t c κs within =
-    let bounds = c.args.bounds.now in
+list_from-requires g t c =
+    let bounds = c.args.self.now.bounds in
     let first = c.in-Some.first.now in
     let others = c.in-Some.others.now in
     let chosen = c.args.chosen.now in
@@ -42,24 +41,18 @@ list_from-requires g t c κs within =
     let mass : c.with.result.mass ≡ mass_of (slice_set chosen.formula first.place count) = rw c.with.ensures at c.with.result.weighed.weighed in (
       omega (arith, c.in-Some.ensures.cases.1),
       (
-        within,
+        c.loop-count.invariant.few,
         (
-          c.requires.sieve,
-          (
-            c.loop-count.invariant.few,
-            (
-              rw c.with.ensures further,
-              omega (arith, allowed.1, mass, more, chosen.weighed.weighed),
-            ),
-          ),
+          rw c.with.ensures further,
+          omega (arith, allowed.1, mass, more, chosen.weighed.weighed),
         ),
       ),
     )
 
 pub loop-count-preserved : goal.loop-count-preserved
 loop-count-preserved g t c =
-    let bounds = c.args.bounds.now in
-    let rules = rules_of c.args.sieve.now in
+    let bounds = c.args.self.now.bounds in
+    let rules = c.args.self.now.sieve.now.rules.items in
     let first = c.in-Some.first.now in
     let others = c.in-Some.others.now in
     let chosen = c.args.chosen.now in
@@ -72,8 +65,8 @@ loop-count-preserved g t c =
 
 pub returns-in_err-list_from-clause-too_many : goal.returns-in_err-list_from-clause-too_many
 returns-in_err-list_from-clause-too_many g t c =
-    let bounds = c.args.bounds.now in
-    let rules = rules_of c.args.sieve.now in
+    let bounds = c.args.self.now.bounds in
+    let rules = c.args.self.now.sieve.now.rules.items in
     let first = c.in-Some.first.now in
     let others = c.in-Some.others.now in
     let chosen = c.args.chosen.now in
@@ -87,8 +80,8 @@ returns-in_err-list_from-clause-too_many g t c =
 
 pub returns-clause-gains : goal.returns-clause-gains
 returns-clause-gains g t c =
-    let bounds = c.args.bounds.now in
-    let rules = rules_of c.args.sieve.now in
+    let bounds = c.args.self.now.bounds in
+    let rules = c.args.self.now.sieve.now.rules.items in
     let first = c.in-Some.first.now in
     let others = c.in-Some.others.now in
     let chosen = c.args.chosen.now in
