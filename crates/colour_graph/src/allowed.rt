@@ -1,0 +1,109 @@
+//! Sets of the edges of a graph.
+ghost use Rattle.std.specs.Prelude.{◌≡◌, ◌≤◌, ◌<◌, ℕ, length, IfOk};
+ghost use Rattle.std.specs.List.{All};
+ghost use Rattle.colour_graph.specs.EdgeSet.{IsSetOf, all_edges, edges_into, is_allowed, leaving, only};
+ghost use Rattle.colour_graph.specs.Graph.{colour_count};
+
+use crate::bits::{is_marked, mark, unmark};
+use crate::edge::{Colour, EdgeId};
+use crate::graph::ColourGraph;
+use std::alloc::{AllocError, Global};
+use std::marker::Model;
+
+/// A set of the edges of a graph, seen as a truth value for each of them. It is kept as bits.
+#[derive(Debug, Drop)]
+pub struct Allowed {
+    words: Vec<u64>,
+    count: u32,
+}
+
+impl Model for Allowed {
+    ghost use Rattle.std.specs.Prelude.{◌≤◌, ◌*◌, Bool, List, length};
+    ghost use Rattle.colour_graph.specs.inside.Bits.{marks_of};
+
+    ghost Value = { List Bool };
+
+    ghost view = { λ set. marks_of set.words.items set.count };
+
+    ghost invariant = { λ set. set.count ≤ 64 * length set.words.items };
+}
+
+impl Allowed {
+    /// The set of all edges of a graph.
+    pub fn all(alloc: Global, graph: &ColourGraph) -> Result<Allowed, AllocError>
+        ensures { IfOk result (λ set. set ≡ all_edges graph.now) }
+    {
+        let count = graph.edge_count();
+        let words = vec![in alloc; u64::MAX; count as usize / 64 + 1]?;
+        Ok(Allowed { words, count })
+    }
+
+    /// Whether an edge is in the set.
+    pub fn has(&self, edge: EdgeId) -> bool
+        requires { edge < length self.now }
+        ensures { result ≡ is_allowed self.now edge }
+    {
+        is_marked(&self.words, edge as usize)
+    }
+
+    /// How many edges of the set go to a colour.
+    pub fn into_colour(&self, graph: &ColourGraph, colour: Colour) -> u32
+        requires set { IsSetOf graph.now self.now }
+        requires not_root { 0 < colour }
+        requires counted { colour ≤ colour_count graph.now }
+        ensures { result ≡ length (edges_into graph.now self.now colour) }
+    {
+        let (first, past) = graph.edges_into(colour);
+        let mut count = 0;
+        for edge in first..past {
+            if self.has(edge) {
+                count += 1;
+            }
+        }
+        count
+    }
+
+    /// The set without the edges into a colour that are not in a part of it.
+    pub fn only(
+        &self,
+        graph: &ColourGraph,
+        colour: Colour,
+        part: &[EdgeId],
+    ) -> Result<Allowed, AllocError>
+        requires set { IsSetOf graph.now self.now }
+        requires not_root { 0 < colour }
+        requires counted { colour ≤ colour_count graph.now }
+        requires in_range { All (λ edge. edge < length self.now) part.now }
+        ensures { IfOk result (λ set. set ≡ only graph.now self.now colour part.now) }
+    {
+        let mut words = self.words.clone()?;
+        let (first, past) = graph.edges_into(colour);
+        for edge in first..past {
+            unmark(&mut words, edge as usize);
+        }
+        for edge in part {
+            if self.has(*edge) {
+                mark(&mut words, *edge as usize);
+            }
+        }
+        Ok(Allowed {
+            words,
+            count: self.count,
+        })
+    }
+
+    /// The set without some edges.
+    pub fn without(&self, part: &[EdgeId]) -> Result<Allowed, AllocError>
+        requires { All (λ edge. edge < length self.now) part.now }
+        ensures { IfOk result (λ set. set ≡ leaving self.now part.now) }
+    {
+        let mut words = self.words.clone()?;
+        for edge in part {
+            unmark(&mut words, *edge as usize);
+        }
+        Ok(Allowed {
+            words,
+            count: self.count,
+        })
+    }
+}

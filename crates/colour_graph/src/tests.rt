@@ -1,0 +1,1 @@
+//! Worked examples of graphs, of colourful lists of edges and of sets of edges.
