@@ -1,3 +1,4 @@
 pub mod Bits
 pub mod Heads
 pub mod Index
+pub mod Sets

@@ -1,8 +1,9 @@
 //! Sets of the edges of a graph.
-ghost use Rattle.std.specs.Prelude.{◌≡◌, ◌≤◌, ◌<◌, ℕ, length, IfOk};
+ghost use Rattle.std.specs.Prelude.{◌≡◌, ◌≤◌, ◌<◌, ◌&&◌, ℕ, IfOk, false, length, nat_le, nat_lt, not, slice_set, true};
 ghost use Rattle.std.specs.List.{All};
-ghost use Rattle.colour_graph.specs.EdgeSet.{IsSetOf, all_edges, edges_into, is_allowed, leaving, only};
+ghost use Rattle.colour_graph.specs.EdgeSet.{IsSetOf, all_edges, edges_into, is_allowed, keeping, leaving, only};
 ghost use Rattle.colour_graph.specs.Graph.{colour_count};
+ghost use Rattle.colour_graph.specs.inside.Sets.{AreBack};
 
 use crate::bits::{is_marked, mark, unmark};
 use crate::edge::{Colour, EdgeId};
@@ -76,20 +77,11 @@ impl Allowed {
         requires in_range { All (λ edge. edge < length self.now) part.now }
         ensures { IfOk result (λ set. set ≡ only graph.now self.now colour part.now) }
     {
-        let mut words = self.words.clone()?;
         let (first, past) = graph.edges_into(colour);
-        for edge in first..past {
-            unmark(&mut words, edge as usize);
-        }
-        for edge in part {
-            if self.has(*edge) {
-                mark(&mut words, *edge as usize);
-            }
-        }
-        Ok(Allowed {
-            words,
-            count: self.count,
-        })
+        let mut set = self.copy()?;
+        set.take_out_row(first, past);
+        set.put_back(self, part);
+        Ok(set)
     }
 
     /// The set without some edges.
@@ -97,13 +89,61 @@ impl Allowed {
         requires { All (λ edge. edge < length self.now) part.now }
         ensures { IfOk result (λ set. set ≡ leaving self.now part.now) }
     {
-        let mut words = self.words.clone()?;
+        let mut set = self.copy()?;
         for edge in part {
-            unmark(&mut words, *edge as usize);
+            set.take_out(*edge);
         }
+        Ok(set)
+    }
+
+    /// The same set once more.
+    fn copy(&self) -> Result<Allowed, AllocError>
+        ensures { IfOk result (λ set. set ≡ self.now) }
+    {
+        let words = self.words.clone()?;
         Ok(Allowed {
             words,
             count: self.count,
         })
+    }
+
+    /// Puts an edge into the set.
+    fn put(&mut self, edge: EdgeId)
+        requires { edge < length self.old }
+        ensures { self.new ≡ slice_set self.old edge true }
+    {
+        mark(&mut self.words, edge as usize);
+    }
+
+    /// Takes an edge out of the set.
+    fn take_out(&mut self, edge: EdgeId)
+        requires { edge < length self.old }
+        ensures { self.new ≡ slice_set self.old edge false }
+    {
+        unmark(&mut self.words, edge as usize);
+    }
+
+    /// Takes the edges from one place on and below another out of the set.
+    fn take_out_row(&mut self, first: EdgeId, past: EdgeId)
+        requires in_order { first ≤ past }
+        requires in_range { past ≤ length self.old }
+        ensures { self.new ≡ keeping (λ edge. not (nat_le first edge && nat_lt edge past)) self.old }
+    {
+        for edge in first..past {
+            self.take_out(edge);
+        }
+    }
+
+    /// Puts the edges of a part that are in another set into this one.
+    fn put_back(&mut self, other: &Allowed, part: &[EdgeId])
+        requires same { length other.now ≡ length self.old }
+        requires in_range { All (λ edge. edge < length self.old) part.now }
+        ensures { AreBack self.old self.new other.now part.now }
+    {
+        for edge in part {
+            if other.has(*edge) {
+                self.put(*edge);
+            }
+        }
     }
 }

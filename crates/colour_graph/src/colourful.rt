@@ -2,7 +2,7 @@
 ghost use Rattle.std.specs.Prelude.{◌≡◌, ◌≢◌, ◌≤◌, ◌<◌, ◌↔◌, ℕ, IsTrue, IsSome, IfSome, length};
 ghost use Rattle.std.specs.List.{All, AllPairs, Contains};
 ghost use Rattle.colour_graph.specs.Colourful.{IsColourful, heads_of, score_of};
-ghost use Rattle.colour_graph.specs.Graph.{edge_at, head_colour};
+ghost use Rattle.colour_graph.specs.Graph.{edge_at, greatest_vertices};
 ghost use Rattle.colour_graph.specs.inside.Bits as bits;
 ghost use Rattle.colour_graph.specs.inside.Heads.{AreApart, AreHeads, IsMarkedTail};
 
@@ -27,13 +27,15 @@ impl ColourGraph {
 
     /// The heads of a list of edges, as bits. None where the graph does not have an edge of it, or two heads have one colour.
     fn marked_heads(&self, edges: &[EdgeId]) -> Option<[u64; WORDS]>
+        ensures few { length self.now.colours ≤ greatest_vertices }
         ensures apart { IsSome result ↔ AreApart self.now edges.now }
         ensures heads { IfSome result (λ heads. AreHeads self.now edges.now heads) }
     {
         let mut heads = [0; WORDS];
         let mut colours = [0; WORDS];
+        let count = self.edge_count();
         for edge in edges {
-            if *edge >= self.edge_count() {
+            if *edge >= count {
                 return None;
             }
             let head = self.edge_at(*edge).head;
@@ -49,7 +51,8 @@ impl ColourGraph {
 
     /// Whether each tail of a list of edges is the root or has its bit.
     fn tails_are_marked(&self, edges: &[EdgeId], marked: &[u64; WORDS]) -> bool
-        requires { All (λ edge. edge < length self.now.edges) edges.now }
+        requires in_range { All (λ edge. edge < length self.now.edges) edges.now }
+        requires few { length self.now.colours ≤ greatest_vertices }
         ensures { IsTrue result ↔ All (λ edge. IsMarkedTail marked.now (edge_at self.now edge).tail) edges.now }
     {
         for edge in edges {

@@ -1,10 +1,10 @@
 //! The graph, and what can be asked of it.
 ghost use Rattle.std.specs.Prelude.{◌≡◌, ◌≤◌, ◌<◌, length};
 ghost use Rattle.colour_graph.specs.EdgeSet.{AreInto};
-ghost use Rattle.colour_graph.specs.Graph.{IsEdge, IsGraph, colour_count, colour_of, edge_at};
+ghost use Rattle.colour_graph.specs.Graph.{IsEdge, IsGraph, IsScore, colour_count, colour_of, edge_at};
 
 use crate::edge::{Colour, Edge, EdgeId, VertexId};
-use crate::index::fill_index;
+use crate::index::index_of;
 use std::marker::Model;
 
 /// A graph whose vertices have colours. Vertex 0 is the root and alone has colour 0; the other vertices stand in order of
@@ -42,13 +42,13 @@ impl ColourGraph {
         root_score: i32,
         colours: Vec<Colour>,
         edges: Vec<Edge>,
-        mut ends: Vec<u32>,
+        ends: Vec<u32>,
     ) -> ColourGraph
         requires graph { IsGraph (record { root_score = root_score; colours = colours.items; edges = edges.items }) }
         requires ends { colour_count (record { root_score = root_score; colours = colours.items; edges = edges.items }) < length ends.items }
         ensures { result ≡ record { root_score = root_score; colours = colours.items; edges = edges.items } }
     {
-        fill_index(&colours, &edges, &mut ends);
+        let ends = index_of(&colours, &edges, ends);
         ColourGraph {
             root_score,
             colours,
@@ -81,7 +81,8 @@ impl ColourGraph {
 
     /// The score of the root.
     pub fn root_score(&self) -> i32
-        ensures { result ≡ self.now.root_score }
+        ensures score { result ≡ self.now.root_score }
+        ensures near { IsScore result }
     {
         self.root_score
     }

@@ -1,20 +1,22 @@
 //! The index of a graph: for each colour, how many edges go to it or to smaller colours.
-ghost use Rattle.std.specs.Prelude.{◌≤◌, ◌<◌, ◌^◌, ℕ, length};
+ghost use Rattle.std.specs.Prelude.{◌≡◌, ◌≤◌, ◌<◌, ◌^◌, ℕ, length};
 ghost use Rattle.colour_graph.specs.inside.Index.{CanIndex, EndsAt, IsIndex, head_colour_at};
 
 use crate::edge::{Colour, Edge};
 
 /// Writes for each colour how many edges go to it or to smaller colours.
-pub(crate) fn fill_index(colours: &[Colour], edges: &[Edge], ends: &mut [u32])
+pub(crate) fn index_of(colours: &[Colour], edges: &[Edge], mut ends: Vec<u32>) -> Vec<u32>
     requires order { CanIndex colours.now edges.now }
     requires few { length edges.now < 2 ^ 32 }
-    ensures { IsIndex colours.now edges.now ends.new }
+    ensures index { IsIndex colours.now edges.now result.items }
+    ensures colours { length result.items ≡ length ends.items }
 {
     let mut past = 0;
     for colour in 0..ends.len() {
         past = past_colour(colours, edges, past, colour);
         ends[colour] = past as u32;
     }
+    ends
 }
 
 /// The first edge that goes to a greater colour than this one, where those before a place do not.
