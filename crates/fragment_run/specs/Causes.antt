@@ -1,41 +1,29 @@
--- Why a run answers a fault: one of its desk, in the slot that the status names.
-use Rattle.std.specs.Prelude.{◌≡◌, ◌≢◌, ℕ, Bool, true, false, List, Option, ⊤}
+-- Why a run answers as it does: the cause of each class of statuses.
+use Rattle.std.specs.Prelude.{◌≡◌, true, false, ⊤}
 use Rattle.frag_io.specs.declared.desk.Slot.{Slot}
-use Rattle.frag_io.specs.declared.desk.Slot.TheVariants.{Profile}
+use Rattle.frag_io.specs.DeskState.{DeskState}
 use Rattle.frag_io.specs.Slot.{IsRead, IsWritten}
 use Rattle.frag_io.specs.Desk.{IsCounted, IsEmpty}
-use Rattle.profile.specs.declared.fault.ProfileFault.{ProfileFault}
-use Rattle.profile.specs.declared.fault.ProfileFault.TheVariants.{OutOfMemory}
 use Rattle.fragment_run.specs.declared.status.Status.{Status}
-use Rattle.fragment_run.specs.declared.status.Status.TheVariants.{Done, Words, ReadFault, WriteFault, OpenFault, TooLong, MgfRefused, ProfileRefused}
+use Rattle.fragment_run.specs.Class.{Class, class_of, ended, refused, open_fault, read_fault, write_fault, too_long, WritesNothing}
 
--- A fault of a slot is counted between two states of a desk.
-abbrev pub HasFault : {D : Type 0} → (D → Slot → ℕ) → D → D → Slot → Type 0
-HasFault faults before now slot = IsCounted (faults before slot) (faults now slot)
+-- where the bytes of the written slots are told, there are none
+abbrev pub IsUnwritten : DeskState → Type 0
+IsUnwritten now = (slot : Slot) → IsWritten slot → IsEmpty (now.written slot)
 
--- the statuses after which nothing was written to any slot
-abbrev pub WritesNothing : Status → Type 0
-WritesNothing Words = ⊤
-WritesNothing (OpenFault slot) = ⊤
-WritesNothing (ProfileRefused fault) = ⊤
-WritesNothing (ReadFault Profile) = ⊤
-WritesNothing (TooLong Profile) = ⊤
-WritesNothing status = ⊥
+-- What a class says of the desk, between the state before a run and that after it. A fault is one of the slot that it names, counted in
+-- the run, which was begun or not as it says; what is too long or refused is a read slot that was begun; and at the end of all work every
+-- written slot that was begun was finished.
+abbrev pub CauseOf : DeskState → DeskState → Class → Type 0
+CauseOf before now (open_fault slot) = IsCounted slot before now × (now.begun slot ≡ false)
+CauseOf before now (read_fault slot) = IsRead slot × IsCounted slot before now × (now.begun slot ≡ true)
+CauseOf before now (write_fault slot) = IsWritten slot × IsCounted slot before now × (now.begun slot ≡ true)
+CauseOf before now (too_long slot) = IsRead slot × (now.begun slot ≡ true)
+CauseOf before now (refused slot) = IsRead slot × (now.begun slot ≡ true)
+CauseOf before now ended = (slot : Slot) → IsWritten slot → now.begun slot ≡ true → now.finished slot ≡ true
+CauseOf before now class = ⊤
 
--- the statuses at the end of all work
-abbrev pub IsEnd : Status → Type 0
-IsEnd Done = ⊤
-IsEnd (MgfRefused fault) = ⊤
-IsEnd status = ⊥
-
--- What a status says of the desk. A fault is one of the slot that it names, which was begun or not as it says; what is too long is a read
--- slot that was begun; at the end of all work every written slot that was begun was finished; a refusal of a profile is no want of memory;
--- and after some statuses nothing was written.
-pub record Causes {D : Type 0} (begun finished : D → Slot → Bool) (written : D → Slot → Option (List ℕ)) (faults : D → Slot → ℕ) (before now : D) (status : Status) : Type 0 where
-  pub open_fault : (slot : Slot) → status ≡ OpenFault slot → HasFault faults before now slot × (begun now slot ≡ false)
-  pub read_fault : (slot : Slot) → status ≡ ReadFault slot → IsRead slot × HasFault faults before now slot × (begun now slot ≡ true)
-  pub write_fault : (slot : Slot) → status ≡ WriteFault slot → IsWritten slot × HasFault faults before now slot × (begun now slot ≡ true)
-  pub too_long : (slot : Slot) → status ≡ TooLong slot → IsRead slot × (begun now slot ≡ true)
-  pub ended : IsEnd status → (slot : Slot) → IsWritten slot → begun now slot ≡ true → finished now slot ≡ true
-  pub refused : (fault : ProfileFault) → status ≡ ProfileRefused fault → fault ≢ OutOfMemory
-  pub nothing : WritesNothing status → (slot : Slot) → IsWritten slot → IsEmpty (written now slot)
+-- A status has the cause of its class, and after some nothing was written.
+pub record Causes (before now : DeskState) (status : Status) : Type 0 where
+  pub cause : CauseOf before now (class_of status)
+  pub nothing : WritesNothing (class_of status) → IsUnwritten now

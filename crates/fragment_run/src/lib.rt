@@ -3,16 +3,22 @@
 
 ghost use Rattle.std.specs.Prelude.{◌≡◌, ◌↔◌, false, Some, None};
 ghost use Rattle.frag_io.specs.declared.desk.Slot.{Slot};
-ghost use Rattle.fragment_run.specs.Words.{Names, list, order_of, texts_of};
+ghost use Rattle.fragment_run.specs.Orders.{ListNames, Order, begins_of, list, order_of, profile_named};
+ghost use Rattle.fragment_run.specs.Words.{texts_of};
 ghost use Rattle.fragment_run.specs.Causes.{Causes};
-ghost use Rattle.fragment_run.specs.ListPromise.{ListPromise};
+ghost use Rattle.fragment_run.specs.Steps.{Steps};
+ghost use Rattle.fragment_run.specs.ProfilePromise.{ProfilePromise};
+ghost use Rattle.fragment_run.specs.list.ListPromise.{ListPromise};
 
-mod form;
+mod escape;
 mod list;
+mod list_lines;
+mod numbers;
+mod orders;
+mod outline;
 mod profile_text;
-mod report;
-mod section;
 mod settings;
+mod skip;
 mod status;
 mod steps;
 #[cfg(test)]
@@ -20,25 +26,32 @@ mod tests;
 mod words;
 
 use frag_io::Desk;
-pub use settings::MAX_TEXT;
+use orders::Order;
 pub use status::{Status, fault_text};
 use std::alloc::Global;
+pub use steps::{GREATEST_DOCUMENT, GREATEST_TEXT};
 
 /// Runs the order that the words give over a desk of which no slot was begun, and says how it ended.
 pub fn run<D: Desk>(alloc: Global, words: &[String], desk: &mut D) -> Status
-    requires { (slot : Slot) → D.begun desk.old slot ≡ false }
+    requires { (slot : Slot) → (D.state desk.old).begun slot ≡ false }
 
     // Each status has its cause.
     ensures words { (result ≡ Status.Words) ↔ (order_of (texts_of words.now) ≡ None) }
-    ensures untouched { result ≡ Status.Words → (slot : Slot) → D.begun desk.new slot ≡ false }
-    ensures causes { Causes D.begun D.finished D.written D.faults desk.old desk.new result }
+    ensures untouched { result ≡ Status.Words → (slot : Slot) → (D.state desk.new).begun slot ≡ false }
+    ensures causes { Causes (D.state desk.old) (D.state desk.new) result }
+
+    // Each order is carried out in the same way.
+    ensures steps { (order : Order) → order_of (texts_of words.now) ≡ Some order
+        → Steps (begins_of order) (D.state desk.old) (D.state desk.new) result }
+    ensures profile { (order : Order) → order_of (texts_of words.now) ≡ Some order
+        → ProfilePromise (profile_named order) (D.state desk.old) (D.state desk.new) result }
 
     // Each command has its promise.
-    ensures list { (names : Names) → order_of (texts_of words.now) ≡ Some (list names)
-        → ListPromise D.begun D.gives D.left D.written D.faults names desk.old desk.new result }
+    ensures list { (names : ListNames) → order_of (texts_of words.now) ≡ Some (list names)
+        → ListPromise names (D.state desk.old) (D.state desk.new) result }
 {
-    match words::read_words(words) {
-        Some(names) => list::list(alloc, &names, desk),
+    match orders::read_order(words) {
+        Some(Order::List(names)) => list::list(alloc, &names, desk),
         None => Status::Words,
     }
 }

@@ -1,23 +1,32 @@
 //! The command `list`: reads a text of spectra and reports for each the formulas of its precursor and its selected peaks.
-ghost use Rattle.std.specs.Prelude.{◌≡◌, ◌≢◌, ◌≤◌, ◌⊎◌, ℕ, List, true, false, Some, option_map, IfSome, IfErr, OnOk, OnErr};
+ghost use Rattle.std.specs.Prelude.{◌≡◌, ◌≢◌, ◌≤◌, ◌++◌, List, ℕ, false, length, take, IfSome, IfOk, IfErr, OnOk, OnErr};
 ghost use Rattle.frag_io.specs.declared.desk.Slot.{Slot};
-ghost use Rattle.frag_io.specs.declared.desk.Slot.TheVariants.{Spectra, Report, CertOut};
-ghost use Rattle.frag_io.specs.Slot.{Gains};
-ghost use Rattle.valence_filter.specs.Sieve.{IsSieve};
-ghost use Rattle.fragment_run.specs.Causes.{Causes};
-ghost use Rattle.fragment_run.specs.ListPromise.{ListPromise, ListsText, TextFirst};
-ghost use Rattle.fragment_run.specs.ProfilePromise.{IsOfProfile};
-ghost use Rattle.fragment_run.specs.Settings.{settings_of};
-ghost use Rattle.fragment_run.specs.SettingsOf.{value_of};
-ghost use Rattle.fragment_run.specs.Steps.{IsReady, OthersSame, status_of};
-ghost use Rattle.fragment_run.specs.Words.{names_of};
+ghost use Rattle.frag_io.specs.declared.desk.Slot.TheVariants.{Spectra, Report};
+ghost use Rattle.frag_io.specs.DeskState.{DeskState};
+ghost use Rattle.frag_io.specs.Desk.{appended};
+ghost use Rattle.frag_io.specs.Slot.{Same};
+ghost use Rattle.fragment_run.specs.Begins.{Begin};
+ghost use Rattle.fragment_run.specs.Causes.{IsUnwritten};
+ghost use Rattle.fragment_run.specs.Class.{class_of, ended, IsOfProfile};
+ghost use Rattle.fragment_run.specs.Limits.{AreReadWhole, greatest_text_of};
+ghost use Rattle.fragment_run.specs.Orders.{begins_of, list, text_begins};
+ghost use Rattle.fragment_run.specs.ProfilePromise.{OnlyProfile, ProfilePromise};
+ghost use Rattle.fragment_run.specs.RunSettings.{run_settings_of};
+ghost use Rattle.fragment_run.specs.inside.ListSteps.{IsTextStop, OnlyListed};
+ghost use Rattle.fragment_run.specs.inside.NamesOf.{names_of};
+ghost use Rattle.fragment_run.specs.inside.Running.{Ends, IsUnfinished, IsWriteAnswer, Runs, status_of};
+ghost use Rattle.fragment_run.specs.inside.SettingsOf.{settings_value_of};
+ghost use Rattle.fragment_run.specs.list.ListPromise.{ListPromise, ListsText};
 
+mod report;
+mod section;
+
+use crate::list::report::report_of;
+use crate::orders::ListNames;
 use crate::profile_text::take_profile;
-use crate::report::report_of;
-use crate::settings::{Settings, choice_of, rules_of};
+use crate::settings::{RunSettings, choice_of, fragment_rules_of};
 use crate::status::Status;
-use crate::steps::{begin_slot, read_text, write_report};
-use crate::words::Names;
+use crate::steps::{begin_slot, finish_slot, read_text, write_slot};
 use adducts::Adduct;
 use element_table::Formula;
 use frag_io::{Desk, Slot};
@@ -26,10 +35,11 @@ use std::alloc::Global;
 use valence_filter::{Sieve, all_hold};
 
 /// Lists the formulas of the text that a name gives, under the profile that is named, for ions of the adduct.
-pub fn list<D: Desk>(alloc: Global, names: &Names, desk: &mut D) -> Status
-    requires { (slot : Slot) → D.begun desk.old slot ≡ false }
-    ensures causes { Causes D.begun D.finished D.written D.faults desk.old desk.new result }
-    ensures promise { ListPromise D.begun D.gives D.left D.written D.faults (names_of names.now) desk.old desk.new result }
+pub fn list<D: Desk>(alloc: Global, names: &ListNames, desk: &mut D) -> Status
+    requires { (slot : Slot) → (D.state desk.old).begun slot ≡ false }
+    ensures ends { Ends (begins_of (list (names_of names.now))) (D.state desk.old) (D.state desk.new) result }
+    ensures profile { ProfilePromise (names_of names.now).profile (D.state desk.old) (D.state desk.new) result }
+    ensures promise { ListPromise (names_of names.now) (D.state desk.old) (D.state desk.new) result }
     ensures an_order { result ≢ Status.Words }
 {
     let profile = match take_profile(alloc, names.profile, desk) {
@@ -42,7 +52,7 @@ pub fn list<D: Desk>(alloc: Global, names: &Names, desk: &mut D) -> Status
     }
 }
 
-// Lists under a profile, for ions of an adduct.
+/// Lists under a profile, for ions of an adduct.
 fn list_under<D: Desk>(
     alloc: Global,
     name: &str,
@@ -50,48 +60,47 @@ fn list_under<D: Desk>(
     adduct: Adduct,
     desk: &mut D,
 ) -> Result<(), Status>
-    requires text { D.begun desk.old Spectra ≡ false }
-    requires report { D.begun desk.old Report ≡ false }
-    requires document { D.begun desk.old CertOut ≡ false }
-    ensures causes { Causes D.begun D.finished D.written D.faults desk.old desk.new (status_of result) }
-    ensures text { IfSome (D.gives desk.old name.now) (λ text. ListsText (settings_of profile.now adduct) text (D.begun desk.new Spectra) (D.left desk.new Spectra) (D.written desk.new Report) (status_of result)) }
-    ensures others { OthersSame (D.begun desk.old) (D.begun desk.new) }
-    ensures opening { TextFirst (D.begun desk.new) }
-    ensures profile { D.left desk.new Slot.Profile ≡ D.left desk.old Slot.Profile }
-    ensures own { IsOfProfile (status_of result) → ⊥ }
+    requires only { OnlyProfile (D.state desk.old) }
+    requires unfinished { IsUnfinished (D.state desk.old) }
+    requires unwritten { IsUnwritten (D.state desk.old) }
+    ensures ends { (done : List Begin) (before : DeskState) → Runs done before (D.state desk.old)
+        → AreReadWhole done before (D.state desk.old)
+        → Ends (done ++ text_begins name.now) before (D.state desk.new) (status_of result) }
+    ensures text { IfSome ((D.state desk.old).gives name.now) (λ text.
+        ListsText (run_settings_of profile.now adduct) text (D.state desk.new) (status_of result)) }
+    ensures own { IsOfProfile (class_of (status_of result)) → ⊥ }
     ensures an_order { status_of result ≢ Status.Words }
 {
-    let rules = rules_of(alloc, profile, &adduct)?;
-    let asked = Vec::from_slice(alloc, &rules)?;
-    let settings = Settings {
+    let rules = fragment_rules_of(alloc, profile, &adduct)?;
+    let kept = Vec::from_slice(alloc, &rules)?;
+    let test = Box::new(alloc, move |formula: &Formula| all_hold(&kept, formula))?;
+    let settings = RunSettings {
         choice: choice_of(profile, adduct),
         limits: profile.limits,
-        sieve: Sieve::new(rules, |formula| all_hold(&asked, formula)),
+        sieve: Sieve::new(rules, test),
     };
     list_steps(alloc, name, &settings, desk)
 }
 
-// Begins both slots, reads the text, and writes and finishes the report.
-fn list_steps<D: Desk, F: Fn(&Formula) -> bool>(
+/// Begins both slots, reads the text, and writes and finishes the report.
+fn list_steps<D: Desk>(
     alloc: Global,
     name: &str,
-    settings: &Settings<F>,
+    settings: &RunSettings,
     desk: &mut D,
 ) -> Result<(), Status>
-    requires text { D.begun desk.old Spectra ≡ false }
-    requires report { D.begun desk.old Report ≡ false }
-    requires document { D.begun desk.old CertOut ≡ false }
-    requires sieve { IsSieve F.pre F.post settings.now.sieve }
-    ensures causes { Causes D.begun D.finished D.written D.faults desk.old desk.new (status_of result) }
-    ensures text { IfSome (D.gives desk.old name.now) (λ text. ListsText (value_of settings.now) text (D.begun desk.new Spectra) (D.left desk.new Spectra) (D.written desk.new Report) (status_of result)) }
-    ensures others { OthersSame (D.begun desk.old) (D.begun desk.new) }
-    ensures opening { TextFirst (D.begun desk.new) }
-    ensures profile { D.left desk.new Slot.Profile ≡ D.left desk.old Slot.Profile }
-    ensures own { IsOfProfile (status_of result) → ⊥ }
+    requires only { OnlyProfile (D.state desk.old) }
+    requires unfinished { IsUnfinished (D.state desk.old) }
+    requires unwritten { IsUnwritten (D.state desk.old) }
+    ensures ends { (done : List Begin) (before : DeskState) → Runs done before (D.state desk.old)
+        → AreReadWhole done before (D.state desk.old)
+        → Ends (done ++ text_begins name.now) before (D.state desk.new) (status_of result) }
+    ensures text { IfSome ((D.state desk.old).gives name.now) (λ text.
+        ListsText (settings_value_of settings.now) text (D.state desk.new) (status_of result)) }
+    ensures own { IsOfProfile (class_of (status_of result)) → ⊥ }
     ensures an_order { status_of result ≢ Status.Words }
 {
-    begin_slots(alloc, name, desk)?;
-    let text = read_text(alloc, desk, Slot::Spectra)?;
+    let text = read_spectra(alloc, name, desk)?;
     let (report, fault) = report_of(alloc, &text, settings)?;
     write_report(alloc, desk, &report)?;
     match fault {
@@ -100,22 +109,43 @@ fn list_steps<D: Desk, F: Fn(&Formula) -> bool>(
     }
 }
 
-// Begins the text and the report.
-fn begin_slots<D: Desk>(alloc: Global, name: &str, desk: &mut D) -> Result<(), Status>
-    requires text { D.begun desk.old Spectra ≡ false }
-    requires report { D.begun desk.old Report ≡ false }
-    requires document { D.begun desk.old CertOut ≡ false }
-    ensures ready { OnOk result (IsReady D.begun D.finished D.gives D.left D.written name.now desk.old desk.new) }
-    ensures causes { IfErr result (Causes D.begun D.finished D.written D.faults desk.old desk.new) }
-    ensures answer { IfErr result (λ status. (status ≡ Status.Memory) ⊎ (status ≡ Status.OpenFault Spectra) ⊎ (status ≡ Status.OpenFault Report)) }
-    ensures unbegun { OnErr result (D.begun desk.new Report ≡ false) }
-    ensures text { OnErr result (D.begun desk.new Spectra ≡ true → D.left desk.new Spectra ≡ D.gives desk.old name.now) }
-    ensures others { OthersSame (D.begun desk.old) (D.begun desk.new) }
-    ensures opening { TextFirst (D.begun desk.new) }
-    ensures profile { D.left desk.new Slot.Profile ≡ D.left desk.old Slot.Profile }
-    ensures counts { (slot : Slot) → D.faults desk.old slot ≤ D.faults desk.new slot }
+/// Begins the text and the report, and reads the text.
+fn read_spectra<D: Desk>(alloc: Global, name: &str, desk: &mut D) -> Result<Vec<u8>, Status>
+    requires only { OnlyProfile (D.state desk.old) }
+    requires unwritten { IsUnwritten (D.state desk.old) }
+    ensures text { IfSome ((D.state desk.old).gives name.now) (λ text. IfOk result (λ bytes. text ≡ bytes.items)) }
+    ensures short { IfOk result (λ bytes. length bytes.items ≤ greatest_text_of Spectra) }
+    ensures begun { OnOk result (OnlyListed (D.state desk.new)) }
+    ensures finished { Same (D.state desk.old).finished (D.state desk.new).finished }
+    ensures unwritten { IsUnwritten (D.state desk.new) }
+    ensures runs { (done : List Begin) (before : DeskState) → Runs done before (D.state desk.old)
+        → OnOk result (Runs (done ++ text_begins name.now) before (D.state desk.new)) }
+    ensures whole { (done : List Begin) (before : DeskState) → Runs done before (D.state desk.old)
+        → AreReadWhole done before (D.state desk.old)
+        → OnOk result (AreReadWhole (done ++ text_begins name.now) before (D.state desk.new)) }
+    ensures ends { (done : List Begin) (before : DeskState) → Runs done before (D.state desk.old)
+        → IfErr result (Ends (done ++ text_begins name.now) before (D.state desk.new)) }
+    ensures stop { IfErr result (λ status. IsTextStop (class_of status)) }
 {
     begin_slot(alloc, desk, Slot::Spectra, name)?;
     begin_slot(alloc, desk, Slot::Report, "")?;
-    Ok(())
+    read_text(alloc, desk, Slot::Spectra)
+}
+
+/// Writes the report and finishes it.
+fn write_report<D: Desk>(alloc: Global, desk: &mut D, report: &[u8]) -> Result<(), Status>
+    requires begun { OnlyListed (D.state desk.old) }
+    requires unfinished { (D.state desk.old).finished Report ≡ false }
+    ensures all { OnOk result ((D.state desk.new).written Report ≡ appended ((D.state desk.old).written Report) report.now) }
+    ensures part { OnErr result ((n : ℕ)
+        × ((D.state desk.new).written Report ≡ appended ((D.state desk.old).written Report) (take n report.now))) }
+    ensures answer { IfErr result (IsWriteAnswer Report) }
+    ensures ended { (order : List Begin) (before : DeskState) → Runs order before (D.state desk.old)
+        → AreReadWhole order before (D.state desk.old)
+        → OnOk result ((status : Status) → class_of status ≡ ended → Ends order before (D.state desk.new) status) }
+    ensures ends { (order : List Begin) (before : DeskState) → Runs order before (D.state desk.old)
+        → IfErr result (Ends order before (D.state desk.new)) }
+{
+    write_slot(alloc, desk, Slot::Report, report)?;
+    finish_slot(desk, Slot::Report)
 }

@@ -1,11 +1,14 @@
 //! The profile of a run: that of the text that it names, or the default one.
-ghost use Rattle.std.specs.Prelude.{◌≡◌, ◌⊎◌, ℕ, true, false, None, Some, option_map, IfOk, IfErr};
+ghost use Rattle.std.specs.Prelude.{◌≡◌, ◌⊎◌, ◌++◌, List, false, None, Some, option_map, OnOk, IfOk, IfErr};
 ghost use Rattle.frag_io.specs.declared.desk.Slot.{Slot};
 ghost use Rattle.frag_io.specs.Slot.{Same};
-ghost use Rattle.frag_io.specs.Desk.{Keeps};
-ghost use Rattle.fragment_run.specs.Causes.{Causes};
-ghost use Rattle.fragment_run.specs.ProfilePromise.{IsOfProfile, OnlyProfile, ProfilePromise};
-ghost use Rattle.fragment_run.specs.Steps.{IsTaken, refusal_of};
+ghost use Rattle.fragment_run.specs.Begins.{Begin, profile_begin};
+ghost use Rattle.fragment_run.specs.Causes.{IsUnwritten};
+ghost use Rattle.fragment_run.specs.Class.{class_of, memory, IsOfProfile};
+ghost use Rattle.fragment_run.specs.Limits.{AreReadWhole};
+ghost use Rattle.fragment_run.specs.ProfilePromise.{OnlyProfile, ProfilePromise};
+ghost use Rattle.fragment_run.specs.inside.ProfileTaken.{IsTaken, refusal_of};
+ghost use Rattle.fragment_run.specs.inside.Running.{Ends, Runs};
 
 use crate::status::Status;
 use crate::steps::{begin_slot, read_text};
@@ -19,15 +22,20 @@ pub fn take_profile<D: Desk>(
     name: Option<&str>,
     desk: &mut D,
 ) -> Result<Profile, Status>
-    requires fresh { (slot : Slot) → D.begun desk.old slot ≡ false }
-    ensures profile { IfOk result (λ profile. IsTaken (D.gives desk.old) (option_map (λ name. name.now) name.entry) (D.left desk.new Slot.Profile) profile) }
-    ensures promise { IfErr result (ProfilePromise D.begun D.gives D.left D.faults (option_map (λ name. name.now) name.entry) desk.old desk.new) }
-    ensures causes { IfErr result (Causes D.begun D.finished D.written D.faults desk.old desk.new) }
-    ensures own { IfErr result (λ status. (status ≡ Status.Memory) ⊎ IsOfProfile status) }
-    ensures unnamed { option_map (λ name. name.now) name.entry ≡ None → D.begun desk.new Slot.Profile ≡ false }
-    ensures only { OnlyProfile (D.begun desk.new) }
-    ensures finished { Same (D.finished desk.old) (D.finished desk.new) }
-    ensures keeps { Keeps D.gives D.left D.written D.faults Slot.Profile desk.old desk.new }
+    requires fresh { (slot : Slot) → (D.state desk.old).begun slot ≡ false }
+    ensures taken { IfOk result (IsTaken (D.state desk.old).gives (option_map (λ name. name.now) name.entry)) }
+    ensures whole { OnOk result (AreReadWhole (profile_begin (option_map (λ name. name.now) name.entry)) (D.state desk.old)
+        (D.state desk.new)) }
+    ensures runs { OnOk result (Runs (profile_begin (option_map (λ name. name.now) name.entry)) (D.state desk.old)
+        (D.state desk.new)) }
+    ensures ends { (rest : List Begin) → IfErr result
+        (Ends (profile_begin (option_map (λ name. name.now) name.entry) ++ rest) (D.state desk.old) (D.state desk.new)) }
+    ensures promise { IfErr result (ProfilePromise (option_map (λ name. name.now) name.entry) (D.state desk.old)
+        (D.state desk.new)) }
+    ensures own { IfErr result (λ status. (class_of status ≡ memory) ⊎ IsOfProfile (class_of status)) }
+    ensures only { OnlyProfile (D.state desk.new) }
+    ensures finished { Same (D.state desk.old).finished (D.state desk.new).finished }
+    ensures unwritten { IsUnwritten (D.state desk.old) → IsUnwritten (D.state desk.new) }
 {
     match name {
         None => Ok(default_profile(alloc)?),
@@ -35,16 +43,19 @@ pub fn take_profile<D: Desk>(
     }
 }
 
-// Reads the profile that a name gives.
+/// Reads the profile that a name gives.
 fn read_named<D: Desk>(alloc: Global, name: &str, desk: &mut D) -> Result<Profile, Status>
-    requires fresh { (slot : Slot) → D.begun desk.old slot ≡ false }
-    ensures profile { IfOk result (λ profile. IsTaken (D.gives desk.old) (Some name.now) (D.left desk.new Slot.Profile) profile) }
-    ensures promise { IfErr result (ProfilePromise D.begun D.gives D.left D.faults (Some name.now) desk.old desk.new) }
-    ensures causes { IfErr result (Causes D.begun D.finished D.written D.faults desk.old desk.new) }
-    ensures own { IfErr result (λ status. (status ≡ Status.Memory) ⊎ IsOfProfile status) }
-    ensures only { OnlyProfile (D.begun desk.new) }
-    ensures finished { Same (D.finished desk.old) (D.finished desk.new) }
-    ensures keeps { Keeps D.gives D.left D.written D.faults Slot.Profile desk.old desk.new }
+    requires fresh { (slot : Slot) → (D.state desk.old).begun slot ≡ false }
+    ensures taken { IfOk result (IsTaken (D.state desk.old).gives (Some name.now)) }
+    ensures whole { OnOk result (AreReadWhole (profile_begin (Some name.now)) (D.state desk.old) (D.state desk.new)) }
+    ensures runs { OnOk result (Runs (profile_begin (Some name.now)) (D.state desk.old) (D.state desk.new)) }
+    ensures ends { (rest : List Begin) → IfErr result
+        (Ends (profile_begin (Some name.now) ++ rest) (D.state desk.old) (D.state desk.new)) }
+    ensures promise { IfErr result (ProfilePromise (Some name.now) (D.state desk.old) (D.state desk.new)) }
+    ensures own { IfErr result (λ status. (class_of status ≡ memory) ⊎ IsOfProfile (class_of status)) }
+    ensures only { OnlyProfile (D.state desk.new) }
+    ensures finished { Same (D.state desk.old).finished (D.state desk.new).finished }
+    ensures unwritten { IsUnwritten (D.state desk.old) → IsUnwritten (D.state desk.new) }
 {
     begin_slot(alloc, desk, Slot::Profile, name)?;
     let text = read_text(alloc, desk, Slot::Profile)?;
@@ -54,7 +65,7 @@ fn read_named<D: Desk>(alloc: Global, name: &str, desk: &mut D) -> Result<Profil
     }
 }
 
-// What a run answers where no profile was read.
+/// What a run answers where no profile was read.
 fn refusal(fault: ProfileFault) -> Status
     ensures { result ≡ refusal_of fault }
 {

@@ -1,28 +1,24 @@
 //! What lists are made under.
 ghost use Rattle.std.specs.Prelude.{◌≡◌, IfOk};
-ghost use Rattle.fragment_run.specs.Settings.{settings_of};
+ghost use Rattle.fragment_run.specs.RunSettings.{run_settings_of};
 
 use adducts::{Adduct, Choice};
-use element_table::Formula;
 use profile::{Limits, Profile};
 use std::alloc::{AllocError, Global};
 use valence_filter::{Rule, Sieve, fragment_rule};
 
-/// How many bytes a text of spectra or of a profile may have.
-pub const MAX_TEXT: usize = 67_108_864;
-
-/// What lists are made under: the adduct, the width of windows and the number of selected peaks; the greatest count of each
-/// element; and the rules of a fragment.
+/// What lists are made under: the adduct, the width of windows and the number of selected peaks; the greatest count of
+/// each element; and the rules of a fragment.
 #[derive(Drop)]
-pub struct Settings<F: Fn(&Formula) -> bool> {
+pub struct RunSettings {
     pub choice: Choice,
     pub limits: Limits,
-    pub sieve: Sieve<F>,
+    pub sieve: Sieve,
 }
 
 /// The choice that a profile makes for an adduct.
 pub fn choice_of(profile: &Profile, adduct: Adduct) -> Choice
-    ensures { result ≡ (settings_of profile.now adduct).choice }
+    ensures { result ≡ (run_settings_of profile.now adduct).choice }
 {
     Choice {
         adduct,
@@ -33,8 +29,12 @@ pub fn choice_of(profile: &Profile, adduct: Adduct) -> Choice
 }
 
 /// The rules of a fragment of an adduct's ions under a profile.
-pub fn rules_of(alloc: Global, profile: &Profile, adduct: &Adduct) -> Result<Vec<Rule>, AllocError>
-    ensures { IfOk result (λ rules. rules.items ≡ (settings_of profile.now adduct.now).rules) }
+pub fn fragment_rules_of(
+    alloc: Global,
+    profile: &Profile,
+    adduct: &Adduct,
+) -> Result<Vec<Rule>, AllocError>
+    ensures { IfOk result (λ rules. rules.items ≡ (run_settings_of profile.now adduct.now).rules) }
 {
     let mut rules = Vec::new(alloc);
     rules.push(fragment_rule(adduct.bound))?;

@@ -1,10 +1,10 @@
 //! How a run ended: the status, its code and the line that tells it.
 ghost use Rattle.std.specs.Prelude.{◌≡◌, ◌++◌, IfOk, OnOk, codes};
-ghost use Rattle.fragment_run.specs.ListForm.{escaped};
+ghost use Rattle.fragment_run.specs.Escape.{escaped};
 ghost use Rattle.fragment_run.specs.declared.status.Status.TheVariants.{Memory};
 ghost use Rattle.fragment_run.specs.Status.{code_of, fault_line, refusal_text, slot_name_of};
 
-use crate::form::push_escaped;
+use crate::escape::push_escaped;
 use frag_io::Slot;
 use mgf_reader::MgfFault;
 use profile::{Name, ProfileFault};

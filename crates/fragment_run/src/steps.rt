@@ -1,16 +1,34 @@
-//! The steps over the desk that a command is made of: a slot begun, read, or written and finished.
-ghost use Rattle.std.specs.Prelude.{◌≡◌, ◌≤◌, ◌⊎◌, [], ℕ, true, false, length, take, IfSome, IfOk, IfErr, OnOk, OnErr};
-ghost use Rattle.frag_io.specs.declared.desk.Slot.TheVariants.{Report};
+//! The steps over the desk that a command is made of: a slot begun, read, written or finished.
+ghost use Rattle.std.specs.Prelude.{◌≡◌, ◌≢◌, ◌≤◌, ◌++◌, ◌∷◌, ◌×◌, [], ℕ, List, true, false, length, take, IfSome, IfOk, IfErr, OnOk, OnErr};
+ghost use Rattle.frag_io.specs.declared.desk.Slot.TheVariants.{Profile, Report};
+ghost use Rattle.frag_io.specs.DeskState.{DeskState};
 ghost use Rattle.frag_io.specs.Slot.{Gains, IsRead, IsWritten, Same};
 ghost use Rattle.frag_io.specs.Desk.{appended, IsEmpty, Keeps};
-ghost use Rattle.fragment_run.specs.Causes.{HasFault};
-ghost use Rattle.fragment_run.specs.ProfilePromise.{greatest_text};
-ghost use Rattle.fragment_run.specs.Steps.{IsOpenAnswer, IsReadAnswer, ReadsText, write_status_of};
+ghost use Rattle.fragment_run.specs.Begins.{Begin, text_in};
+ghost use Rattle.fragment_run.specs.Causes.{IsUnwritten};
+ghost use Rattle.fragment_run.specs.Limits.{greatest_text_of};
+ghost use Rattle.fragment_run.specs.inside.Running.{Ends, IsOpenAnswer, IsReadAnswer, IsWriteAnswer, Runs, write_status_of};
 
-use crate::settings::MAX_TEXT;
 use crate::status::Status;
 use frag_io::{Desk, DeskFault, ReadWhole, Slot, read_whole, write_whole};
 use std::alloc::Global;
+
+/// How many bytes a text of spectra or of a profile may have.
+pub const GREATEST_TEXT: usize = 67_108_864;
+
+/// How many bytes a document that is read may have.
+pub const GREATEST_DOCUMENT: usize = 268_435_456;
+
+/// How many bytes may be read from a slot.
+fn limit_of(slot: Slot) -> usize
+    ensures { result ≡ greatest_text_of slot }
+{
+    match slot {
+        Slot::Spectra | Slot::Profile => GREATEST_TEXT,
+        Slot::CertIn => GREATEST_DOCUMENT,
+        Slot::Report | Slot::CertOut => 0,
+    }
+}
 
 /// Begins a slot under a name.
 pub fn begin_slot<D: Desk>(
@@ -19,16 +37,20 @@ pub fn begin_slot<D: Desk>(
     slot: Slot,
     name: &str,
 ) -> Result<(), Status>
-    requires fresh { D.begun desk.old slot ≡ false }
+    requires fresh { (D.state desk.old).begun slot ≡ false }
     requires unnamed { slot ≡ Report → name.now ≡ [] }
-    ensures ok { OnOk result (Gains slot (D.begun desk.old) (D.begun desk.new)) }
-    ensures err { OnErr result (Same (D.begun desk.old) (D.begun desk.new)) }
-    ensures left { OnOk result (IsRead slot → D.left desk.new slot ≡ D.gives desk.old name.now) }
-    ensures written { OnOk result (IsWritten slot → IsEmpty (D.written desk.new slot)) }
-    ensures finished { Same (D.finished desk.old) (D.finished desk.new) }
-    ensures keeps { Keeps D.gives D.left D.written D.faults slot desk.old desk.new }
+    ensures ok { OnOk result (Gains slot (D.state desk.old).begun (D.state desk.new).begun) }
+    ensures err { OnErr result (Same (D.state desk.old).begun (D.state desk.new).begun) }
+    ensures left { OnOk result (IsRead slot → (D.state desk.new).left slot ≡ (D.state desk.old).gives name.now) }
+    ensures finished { Same (D.state desk.old).finished (D.state desk.new).finished }
+    ensures keeps { Keeps slot (D.state desk.old) (D.state desk.new) }
     ensures answer { IfErr result (IsOpenAnswer slot) }
-    ensures fault { IfErr result (λ status. status ≡ Status.OpenFault slot → HasFault D.faults desk.old desk.new slot) }
+    ensures unwritten { IsUnwritten (D.state desk.old) → IsUnwritten (D.state desk.new) }
+    ensures runs { (done : List Begin) (before : DeskState) → Runs done before (D.state desk.old)
+        → OnOk result (Runs (done ++ record { slot = slot; name = name.now } ∷ []) before (D.state desk.new)) }
+    ensures ends { (done later : List Begin) (before : DeskState) → Runs done before (D.state desk.old)
+        → IsUnwritten (D.state desk.old)
+        → IfErr result (Ends (done ++ record { slot = slot; name = name.now } ∷ later) before (D.state desk.new)) }
 {
     match desk.begin(alloc, slot, name) {
         Ok(()) => Ok(()),
@@ -37,19 +59,25 @@ pub fn begin_slot<D: Desk>(
     }
 }
 
-/// Reads a text whole, of at most `MAX_TEXT` bytes.
+/// Reads a slot whole, up to its limit.
 pub fn read_text<D: Desk>(alloc: Global, desk: &mut D, slot: Slot) -> Result<Vec<u8>, Status>
     requires read { IsRead slot }
-    requires begun { D.begun desk.old slot ≡ true }
-    ensures text { IfSome (D.left desk.old slot) (λ text. ReadsText slot text (D.left desk.new slot) result) }
-    ensures short { IfOk result (λ text. length text.items ≤ greatest_text) }
-    ensures begun { Same (D.begun desk.old) (D.begun desk.new) }
-    ensures finished { Same (D.finished desk.old) (D.finished desk.new) }
-    ensures keeps { Keeps D.gives D.left D.written D.faults slot desk.old desk.new }
+    requires begun { (D.state desk.old).begun slot ≡ true }
+    ensures text { IfSome ((D.state desk.old).left slot) (λ text.
+        IfOk result (λ bytes. (text ≡ bytes.items) × ((D.state desk.new).left slot ≡ Some []))) }
+    ensures short { IfOk result (λ bytes. length bytes.items ≤ greatest_text_of slot) }
+    ensures begun { Same (D.state desk.old).begun (D.state desk.new).begun }
+    ensures finished { Same (D.state desk.old).finished (D.state desk.new).finished }
+    ensures keeps { Keeps slot (D.state desk.old) (D.state desk.new) }
     ensures answer { IfErr result (IsReadAnswer slot) }
-    ensures fault { IfErr result (λ status. status ≡ Status.ReadFault slot → HasFault D.faults desk.old desk.new slot) }
+    ensures unwritten { IsUnwritten (D.state desk.old) → IsUnwritten (D.state desk.new) }
+    ensures runs { (done : List Begin) (before : DeskState) → Runs done before (D.state desk.old)
+        → (D.state desk.old).left slot ≡ text_in done before slot → OnOk result (Runs done before (D.state desk.new)) }
+    ensures ends { (done rest : List Begin) (before : DeskState) → Runs done before (D.state desk.old)
+        → (D.state desk.old).left slot ≡ text_in done before slot → IsUnwritten (D.state desk.old)
+        → (slot ≢ Profile → rest ≡ []) → IfErr result (Ends (done ++ rest) before (D.state desk.new)) }
 {
-    match read_whole(alloc, desk, slot, MAX_TEXT) {
+    match read_whole(alloc, desk, slot, limit_of(slot)) {
         Ok(text) => Ok(text),
         Err(ReadWhole::Failed) => Err(Status::ReadFault(slot)),
         Err(ReadWhole::TooLong) => Err(Status::TooLong(slot)),
@@ -57,32 +85,61 @@ pub fn read_text<D: Desk>(alloc: Global, desk: &mut D, slot: Slot) -> Result<Vec
     }
 }
 
-/// Writes the report and finishes it.
-pub fn write_report<D: Desk>(alloc: Global, desk: &mut D, report: &[u8]) -> Result<(), Status>
-    requires begun { D.begun desk.old Report ≡ true }
-    requires unfinished { D.finished desk.old Report ≡ false }
-    ensures all { OnOk result ((D.written desk.new Report ≡ appended (D.written desk.old Report) report.now) × (D.finished desk.new Report ≡ true)) }
-    ensures part { OnErr result ((n : ℕ) × (D.written desk.new Report ≡ appended (D.written desk.old Report) (take n report.now))) }
-    ensures begun { Same (D.begun desk.old) (D.begun desk.new) }
-    ensures keeps { Keeps D.gives D.left D.written D.faults Report desk.old desk.new }
-    ensures fault { IfErr result (λ status. (status ≡ Status.Memory) ⊎ ((status ≡ Status.WriteFault Report) × HasFault D.faults desk.old desk.new Report)) }
+/// Appends bytes to a written slot.
+pub fn write_slot<D: Desk>(
+    alloc: Global,
+    desk: &mut D,
+    slot: Slot,
+    bytes: &[u8],
+) -> Result<(), Status>
+    requires written { IsWritten slot }
+    requires begun { (D.state desk.old).begun slot ≡ true }
+    requires unfinished { (D.state desk.old).finished slot ≡ false }
+    ensures all { OnOk result ((D.state desk.new).written slot ≡ appended ((D.state desk.old).written slot) bytes.now) }
+    ensures part { OnErr result ((n : ℕ)
+        × ((D.state desk.new).written slot ≡ appended ((D.state desk.old).written slot) (take n bytes.now))) }
+    ensures begun { Same (D.state desk.old).begun (D.state desk.new).begun }
+    ensures finished { Same (D.state desk.old).finished (D.state desk.new).finished }
+    ensures keeps { Keeps slot (D.state desk.old) (D.state desk.new) }
+    ensures answer { IfErr result (IsWriteAnswer slot) }
+    ensures runs { (done : List Begin) (before : DeskState) → Runs done before (D.state desk.old)
+        → Runs done before (D.state desk.new) }
+    ensures ends { (order : List Begin) (before : DeskState) → Runs order before (D.state desk.old)
+        → IfErr result (Ends order before (D.state desk.new)) }
 {
-    match write_whole(alloc, desk, Slot::Report, report) {
-        Ok(()) => {}
-        Err(fault) => return Err(write_status(fault)),
-    }
-    match desk.finish(Slot::Report) {
+    match write_whole(alloc, desk, slot, bytes) {
         Ok(()) => Ok(()),
-        Err(fault) => Err(write_status(fault)),
+        Err(fault) => Err(write_status(slot, fault)),
     }
 }
 
-// What a failed write or end of the report answers.
-fn write_status(fault: DeskFault) -> Status
-    ensures { result ≡ write_status_of fault }
+/// Finishes a written slot.
+pub fn finish_slot<D: Desk>(desk: &mut D, slot: Slot) -> Result<(), Status>
+    requires written { IsWritten slot }
+    requires begun { (D.state desk.old).begun slot ≡ true }
+    requires unfinished { (D.state desk.old).finished slot ≡ false }
+    ensures ok { OnOk result (Gains slot (D.state desk.old).finished (D.state desk.new).finished) }
+    ensures unchanged { (D.state desk.new).written slot ≡ (D.state desk.old).written slot }
+    ensures begun { Same (D.state desk.old).begun (D.state desk.new).begun }
+    ensures keeps { Keeps slot (D.state desk.old) (D.state desk.new) }
+    ensures answer { IfErr result (IsWriteAnswer slot) }
+    ensures runs { (done : List Begin) (before : DeskState) → Runs done before (D.state desk.old)
+        → Runs done before (D.state desk.new) }
+    ensures ends { (order : List Begin) (before : DeskState) → Runs order before (D.state desk.old)
+        → IfErr result (Ends order before (D.state desk.new)) }
+{
+    match desk.finish(slot) {
+        Ok(()) => Ok(()),
+        Err(fault) => Err(write_status(slot, fault)),
+    }
+}
+
+/// What a failed write or end of a slot answers.
+fn write_status(slot: Slot, fault: DeskFault) -> Status
+    ensures { result ≡ write_status_of slot fault }
 {
     match fault {
-        DeskFault::Failed => Status::WriteFault(Slot::Report),
+        DeskFault::Failed => Status::WriteFault(slot),
         DeskFault::OutOfMemory => Status::Memory,
     }
 }

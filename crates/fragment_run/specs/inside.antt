@@ -1,0 +1,8 @@
+-- What only the functions inside the crate speak of.
+pub mod Words
+pub mod NamesOf
+pub mod Running
+pub mod ListSteps
+pub mod ProfileTaken
+pub mod Outlines
+pub mod SettingsOf
