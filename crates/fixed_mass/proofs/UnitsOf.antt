@@ -17,7 +17,7 @@ use Rattle.fixed_mass.specs.Numeral.{is_mark, is_point, significand_of, exponent
 use Rattle.fixed_mass.specs.Units.{numerator_of, denominator_of, units_of}
 use Rattle.fixed_mass.specs.inside.Tenths.{tenths_of, rounded_of, leading_of}
 use Rattle.fixed_mass.proofs.DigitsValue.{own, after_append}
-use Rattle.fixed_mass.proofs.IsNumeral.{all_back}
+use Rattle.fixed_mass.proofs.IsNumeral.{all_back, all_join}
 
 pub power_positive : (k : ℕ) → 0 < 10 ^ k
 power_positive k = one-le-pow k 10 (omega arith)
@@ -106,6 +106,16 @@ pub tenths_of-leading : (scale : ℕ) (whole fraction : List ℕ) (raised lowere
 unfolding tenths_of
 tenths_of-leading scale whole fraction raised lowered h =
     power_div (whole ++ fraction) (scale + 1 + raised) (length fraction + lowered) h
+
+-- the same of a value that was read without the digits that fall away, and of the places that it is raised by
+pub tenths_of-raised : (scale : ℕ) (whole fraction : List ℕ) (raised lowered dropped places value : ℕ)
+    → all_ascii_digits whole ≡ true → all_ascii_digits fraction ≡ true
+    → dropped ≡ length fraction + lowered - (scale + 1 + raised) → places ≡ scale + 1 + raised - (length fraction + lowered)
+    → value ≡ leading_of dropped (whole ++ fraction) → value * 10 ^ places ≡ tenths_of scale whole fraction raised lowered
+tenths_of-raised scale whole fraction raised lowered dropped places value before behind falls rises is =
+    let leading = leading_of (length fraction + lowered - (scale + 1 + raised)) (whole ++ fraction) in
+    ap (λ v. v * 10 ^ places) (is ∙ ap (λ k. leading_of k (whole ++ fraction)) falls) ∙ ap (λ k. leading * 10 ^ k) rises
+    ∙ sym (tenths_of-leading scale whole fraction raised lowered (all_join whole fraction before behind))
 
 pub le_product : (v j : ℕ) → v ≤ v * 10 ^ j
 le_product v j = le-mul_of_pos_right v (power_positive j)
