@@ -30,12 +30,14 @@ key_text charge = codes "CHARGE"
 abbrev pub is_key : Key → List ℕ → Bool
 is_key key text = str_eq_ignore_ascii_case text (key_text key)
 
+-- the units that the first of some fields stands for, where there is one and it is read
+abbrev pub first_units : List (List ℕ) → Option ℕ
+first_units [] = None
+first_units (field ∷ fields) = readable_units mz_scale field
+
 -- the units of a precursor: those of its value's first field
 abbrev pub precursor_units : List ℕ → Option ℕ
-precursor_units value = first_units (fields_of value) where
-  first_units : List (List ℕ) → Option ℕ
-  first_units [] = None
-  first_units (field ∷ fields) = readable_units mz_scale field
+precursor_units value = first_units (fields_of value)
 
 -- the sign that a byte is, where it is one
 abbrev pub sign_of : ℕ → Option Sign
