@@ -2,15 +2,14 @@
 use Rattle.std.proofs.Common.{◌≡◌, ◌≤◌, ◌+◌, ◌∙◌, ◌++◌, ℕ, Bool, false, List, [], ◌∷◌, length, refl, sym, ap, subst, append_assoc, length-append, arith}
 use Rattle.std.proofs.lemmas.Bool.Decides.{nat_tests}
 use Rattle.std.specs.Prelude.{Option, Some, None, is_none, nat_le, if◌then◌else◌}
-use Rattle.std.specs.Option.{option_to_list, option_and_then}
+use Rattle.std.specs.Option.{option_to_list}
 use Rattle.std.specs.List.{AllByRecursion, flat_map}
-use Rattle.fixed_mass.specs.Units.{readable_units}
 use Rattle.mgf_reader.specs.declared.fault.MgfKind.{MgfKind}
 use Rattle.mgf_reader.specs.declared.fault.MgfKind.TheVariants.{BadPeak, TooManyPeaks, OpenBlock}
 use Rattle.mgf_reader.specs.declared.fault.MgfFault.{MgfFault}
 use Rattle.mgf_reader.specs.Spectrum.{PeakValue, SpectrumValue}
 use Rattle.mgf_reader.specs.LineForm.{LineForm, too_long, blank, comment, begin, end, parameter, peak, remark, no_form, form_of}
-use Rattle.mgf_reader.specs.PeakLine.{peak_of, intensity_of}
+use Rattle.mgf_reader.specs.PeakLine.{peak_of}
 use Rattle.mgf_reader.specs.Grammar.{greatest_peaks_of_a_block, fault_outside, fault_inside, peak_in, peaks_of, IsOutside, IsInside, IsBlockBody, Piece, outside, block, piece_lines, IsPiece, spectra_of, Rest, nothing, stray, refused, open_block, ReadsLines}
 use Rattle.mgf_reader.proofs.SpectraOf.{peaks_of-length}
 

@@ -1,11 +1,10 @@
 -- For `signed`: the digits of a charge, as a number that is read.
-use Rattle.std.proofs.Common.{◌≡◌, ◌≤◌, ◌<◌, ◌^◌, ℕ, Bool, true, false, ◌&&◌, cond, nat_lt, List, Option, Some, None, length, refl, sym, ap, arith}
+use Rattle.std.proofs.Common.{◌≡◌, ◌≤◌, ◌<◌, ◌^◌, ℕ, Bool, true, false, ◌&&◌, cond, nat_lt, List, Some, None, length, refl, ap, arith}
 use Rattle.std.proofs.lemmas.Bool.{lt-ltb, le-leb}
 use Rattle.std.proofs.lemmas.Str.Parse.{IsNumeralModel, digits_value_short, numerals_by_value, tells_all_ascii_digits}
 use Rattle.std.specs.Str.{all_ascii_digits}
 use Rattle.std.specs.Str.Parse.{digits_value}
 use Rattle.fixed_mass.specs.Numeral.{is_digits, number_of_digits}
-use Rattle.mgf_reader.specs.declared.spectrum.Charge.{Charge}
 use Rattle.mgf_reader.specs.declared.spectrum.Sign.{Sign}
 use Rattle.mgf_reader.specs.Parameter.{greatest_charge_digits, signed}
 
