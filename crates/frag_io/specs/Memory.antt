@@ -1,5 +1,5 @@
 -- What a desk in memory tells of its slots, and what its calls count.
-use Rattle.std.specs.Prelude.{◌≡◌, ℕ, List, [], Some, String, string_bytes, option_map}
+use Rattle.std.specs.Prelude.{◌≡◌, ℕ, List, [], Some, string_bytes, option_map}
 use Rattle.frag_io.specs.declared.desk.Slot.{Slot}
 use Rattle.frag_io.specs.declared.desk.Slot.TheVariants.{Spectra, Profile, CertIn, Report, CertOut}
 use Rattle.frag_io.specs.declared.failing.CallKind.{CallKind}
