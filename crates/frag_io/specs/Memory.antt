@@ -1,7 +1,6 @@
 -- What a desk in memory tells of its slots, and what its calls count.
-use Rattle.std.specs.Prelude.{◌≡◌, ℕ, List, [], Some, string_bytes, option_map}
+use Rattle.std.specs.Prelude.{◌≡◌, ℕ, List, Some, string_bytes, option_map}
 use Rattle.frag_io.specs.declared.desk.Slot.{Slot}
-use Rattle.frag_io.specs.declared.desk.Slot.TheVariants.{Spectra, Profile, CertIn, Report, CertOut}
 use Rattle.frag_io.specs.declared.failing.CallKind.{CallKind}
 use Rattle.frag_io.specs.declared.failing.Failing.{Failing}
 use Rattle.frag_io.specs.declared.memory.MemoryDesk.{MemoryDesk}
@@ -10,15 +9,8 @@ use Rattle.frag_io.specs.Failing.{calls_of, IsDue, CountsCall}
 use Rattle.frag_io.specs.Files.{bytes_under}
 use Rattle.frag_io.specs.inside.BySlot.{at}
 use Rattle.frag_io.specs.inside.Faults.{faults_of}
+use Rattle.frag_io.specs.inside.Bytes.{bytes_at}
 use Rattle.frag_io.specs.inside.Stage.{is_begun, is_finished, left_at, written_at}
-
--- the bytes that are kept for a written slot
-abbrev pub bytes_at : MemoryDesk → Slot → List ℕ
-bytes_at desk Spectra = []
-bytes_at desk Profile = []
-bytes_at desk CertIn = []
-bytes_at desk Report = desk.report.items
-bytes_at desk CertOut = desk.cert_out.items
 
 -- What a desk in memory tells: all of it.
 abbrev pub state_of : MemoryDesk → DeskState

@@ -14,7 +14,7 @@ use crate::stage::{Source, Stage, first_stage, rest};
 use crate::{CallKind, Desk, DeskFault, Failing, Slot};
 use std::alloc::{AllocError, Global};
 
-/// A desk over files in memory. It tells all its bytes.
+/// A desk over files in memory. It tells all its bytes, and the name under which each slot was begun.
 #[derive(Drop)]
 pub struct MemoryDesk {
     files: Vec<(String, Vec<u8>)>,
@@ -29,7 +29,8 @@ pub struct MemoryDesk {
 }
 
 impl MemoryDesk {
-    ghost use Rattle.frag_io.specs.Memory.{bytes_at, state_of, piece_of, failing_of, calls_made};
+    ghost use Rattle.frag_io.specs.Memory.{state_of, piece_of, failing_of, calls_made};
+    ghost use Rattle.frag_io.specs.inside.Bytes.{bytes_at};
 
     /// A desk over these files, of which the first of a name counts. These calls fail; the others move at most
     /// `piece` bytes each. No slot is begun.
@@ -42,6 +43,7 @@ impl MemoryDesk {
         requires { 0 < piece }
         ensures unbegun { (slot : Slot) → (state_of result).begun slot ≡ false }
         ensures unfinished { (slot : Slot) → (state_of result).finished slot ≡ false }
+        ensures unnamed { (slot : Slot) → (state_of result).names slot ≡ None }
         ensures empty { (slot : Slot) → (state_of result).written slot ≡ Some [] }
         ensures faultless { (slot : Slot) → (state_of result).faults slot ≡ 0 }
         ensures files { (name : List ℕ) → (state_of result).gives name ≡ bytes_under files.items name }
@@ -73,7 +75,7 @@ impl MemoryDesk {
         }
     }
 
-    /// The name under which a slot was begun; none, where it was not.
+    /// The name under which a slot was begun.
     pub fn name(&self, slot: Slot) -> Option<&str>
         ensures { (state_of self.now).names slot ≡ option_map (λ name. name.now) result }
     {
@@ -133,7 +135,8 @@ impl MemoryDesk {
 impl Desk for MemoryDesk {
     ghost use Rattle.frag_io.specs.declared.desk.Slot.TheVariants.{Report};
     ghost use Rattle.frag_io.specs.Desk.{IsNamed, IsEmpty, appended, Keeps, AddsOnOk, HasCause, CountsFault, Moves};
-    ghost use Rattle.frag_io.specs.Memory.{bytes_at, state_of, left_of, piece_of, FailsNext, Counts};
+    ghost use Rattle.frag_io.specs.Memory.{state_of, left_of, piece_of, FailsNext, Counts};
+    ghost use Rattle.frag_io.specs.inside.Bytes.{bytes_at};
     ghost use Rattle.frag_io.specs.inside.Stage.{finished_is_begun, fresh_is_empty};
 
     ghost state = { state_of };

@@ -5,8 +5,9 @@ use Rattle.frag_io.specs.declared.desk.Slot.{Slot}
 use Rattle.frag_io.specs.declared.memory.MemoryDesk.{MemoryDesk}
 use Rattle.frag_io.specs.declared.stage.Stage.{Stage}
 use Rattle.frag_io.specs.declared.by_slot.BySlot.{BySlot}
-use Rattle.frag_io.specs.Memory.{bytes_at, state_of}
+use Rattle.frag_io.specs.Memory.{state_of}
 use Rattle.frag_io.specs.inside.BySlot.{at}
+use Rattle.frag_io.specs.inside.Bytes.{bytes_at}
 use Rattle.frag_io.specs.inside.Stage.{left_at, written_at}
 use Rattle.frag_io.proofs.memory.MemoryDeskDesk.begin.Goals as goal
 
