@@ -1,4 +1,4 @@
--- Worked examples, computed.
+-- Of all definitions: worked examples, computed.
 use Rattle.std.proofs.Common.{◌≡◌, ℕ, zero, suc, pos, negsuc, List, [], ◌∷◌, Some, None, true, false, codes, refl, arith}
 use Rattle.std.specs.List.Sorted.{IsSorted}
 use Rattle.std.proofs.lemmas.List.Sorted.{IsPermutation-refl}
@@ -8,7 +8,7 @@ use Rattle.mgf_reader.specs.declared.spectrum.Sign.TheVariants.{Plus, Minus}
 use Rattle.adducts.specs.Adduct.{AdductValue}
 use Rattle.adducts.specs.Table.{adduct_named, ammonia}
 use Rattle.adducts.specs.Charges.{charges_fit}
-use Rattle.adducts.specs.Choosing.{chosen_from}
+use Rattle.adducts.specs.inside.Choosing.{chosen_from}
 use Rattle.adducts.specs.Selected.{Selected, falling_cmp, rank_cmp}
 use Rattle.adducts.specs.declared.choice.Choice.{Choice}
 use Rattle.adducts.proofs.Marking.{selected_from_chosen}

@@ -1,4 +1,4 @@
--- What tells whether one interval lies below another, and whether two are apart.
+-- Of LiesBelow, AreApart and IsSelectable: what tells whether one interval lies below another, and whether two are apart.
 use Rattle.std.proofs.Common.{ℕ, ◌+◌, ◌-◌, ◌≤◌, ◌<◌, ◌⊎◌, inl, inr, max, List, [], ◌∷◌, map, length, refl, ltb, arith}
 use Rattle.std.specs.Bool.{Decides}
 use Rattle.std.specs.List.{AllByRecursion, list_all}
@@ -6,7 +6,7 @@ use Rattle.std.proofs.lemmas.Bool.{cases_lt}
 use Rattle.std.proofs.lemmas.Bool.Decides.{Decides-and, Decides-like, Decides-ltb, Decides-or}
 use Rattle.element_table.specs.Window.{half_width_of}
 use Rattle.mgf_reader.specs.Spectrum.{PeakValue}
-use Rattle.adducts.specs.Choosing.{interval_of, is_apart, is_chosen}
+use Rattle.adducts.specs.inside.Choosing.{interval_of, is_apart, is_chosen}
 use Rattle.adducts.specs.Selected.{AreApart, IsSelectable, LiesBelow}
 use Rattle.adducts.specs.declared.choice.Choice.{Choice}
 
@@ -66,7 +66,7 @@ ends_from_apart choice one other apart = by_first (cases_lt (one + half choice o
     by_first (inl ends) = inl ends
     by_first (inr reached) = by_second reached (cases_lt (other + half choice other) (one - half choice one))
 
-Decides-is_apart : (choice : Choice) (one other : ℕ) → Decides (is_apart (interval_of choice one) (interval_of choice other)) (AreApart choice one other)
+pub Decides-is_apart : (choice : Choice) (one other : ℕ) → Decides (is_apart (interval_of choice one) (interval_of choice other)) (AreApart choice one other)
 Decides-is_apart choice one other = Decides-like _
     (λ ends n in_one in_other. apart_from_ends one other (half choice one) (half choice other) n ends in_one.not_below in_one.not_above in_other.not_below in_other.not_above)
     (ends_from_apart choice one other)

@@ -1,5 +1,6 @@
 pub mod Examples
 pub mod Intervals
-pub mod Lower
+pub mod Sorted
+pub mod Standing
 pub mod Marking
 pub mod Usables

@@ -1,10 +1,10 @@
--- The peaks that are chosen one after another are those with a mark.
+-- Of Selected and chosen_from: the peaks that are chosen one after another are those with a mark.
 use Rattle.std.proofs.Common.{◌≡◌, ℕ, zero, suc, Bool, true, false, List, [], ◌∷◌, ◌++◌, Some, length, take, refl, sym, ap, ◌∙◌, append_assoc, append-nil, if◌then◌else◌}
 use Rattle.std.specs.Prelude.{slice_get, slice_index_or}
 use Rattle.std.specs.List.{filter}
 use Rattle.std.specs.List.Sorted.{IsPermutation, IsSorted}
 use Rattle.mgf_reader.specs.Spectrum.{PeakValue}
-use Rattle.adducts.specs.Choosing.{chosen_from, chosen_with, is_chosen}
+use Rattle.adducts.specs.inside.Choosing.{chosen_from, chosen_with, is_chosen}
 use Rattle.adducts.specs.Selected.{Selected, falling_cmp, has_intensity, marked, rank_cmp}
 use Rattle.adducts.specs.declared.choice.Choice.{Choice}
 use Rattle.adducts.proofs.Intervals.{Decides-is_chosen}

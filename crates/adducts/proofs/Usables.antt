@@ -1,4 +1,4 @@
--- A spectrum that can be used has a precursor.
+-- Of IsUsable: a spectrum that can be used has a precursor.
 use Rattle.std.proofs.Common.{◌≡◌, ℕ, Bool, true, false, Option, Some, None, ap, if◌then◌else◌}
 use Rattle.std.specs.Option.{option_map_or}
 use Rattle.mgf_reader.specs.Spectrum.{SpectrumValue}

@@ -21,7 +21,8 @@ is_in_range choice mz =
 -- the same where the precursor has this m/z
 abbrev pub fit_at : SpectrumValue → Choice → ℕ → Fit
 fit_at spectrum choice mz =
-    if charges_fit choice.adduct.plus spectrum.charges then (if is_in_range choice mz then Usable mz else Range mz) else Charge
+    if charges_fit choice.adduct.plus spectrum.charges then (if is_in_range choice mz then Usable mz else Range mz)
+    else Charge
 
 abbrev pub fit_of : SpectrumValue → Choice → Fit
 fit_of spectrum choice = option_map_or (fit_at spectrum choice) spectrum.precursor NoPrecursor

@@ -3,4 +3,4 @@ pub mod Table
 pub mod Charges
 pub mod Fit
 pub mod Selected
-pub mod Choosing
+pub mod inside

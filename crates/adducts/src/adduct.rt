@@ -1,6 +1,7 @@
 //! The adduct table.
-ghost use Rattle.std.specs.Prelude.{◌≡◌, ◌≤◌, ◌^◌, ◌-ℤ◌, pos};
-ghost use Rattle.adducts.specs.Table.{adduct_named, extra_of};
+ghost use Rattle.std.specs.Prelude.{◌≡◌, ◌≤◌, ◌^◌, ◌-ℤ◌, if◌then◌else◌, pos};
+ghost use Rattle.element_table.specs.Formula.{empty_formula};
+ghost use Rattle.adducts.specs.Table.{adduct_named, ammonia};
 
 use element_table::Formula;
 use std::marker::Model;
@@ -8,7 +9,7 @@ use std::marker::Model;
 /// The adducts: the name, whether the charge is positive, the m/z of an ion less the mass of its formula in units of
 /// 10^-7 Da, whether ammonia is added to the molecule, and the least number of twice the rings and double bonds that a
 /// listed formula has.
-pub const ADDUCTS: [(&str, bool, i64, bool, i32); 6] = [
+const ADDUCTS: [(&str, bool, i64, bool, i32); 6] = [
     ("[M+H]+", true, 10_072_764, false, -1),
     ("[M+NH4]+", true, 10_072_764, true, -3),
     ("[M+Na]+", true, 229_892_207, false, -1),
@@ -17,9 +18,9 @@ pub const ADDUCTS: [(&str, bool, i64, bool, i32); 6] = [
     ("[M+Cl]-", false, 349_694_013, false, -1),
 ];
 
-/// What an ion carries beside its molecule: whether its charge is positive, its m/z less the mass of its formula in units
-/// of 10^-7 Da and within 10^9 of 0, what is added to the molecule's formula, and the least number of twice the rings and
-/// double bonds that a listed formula has, within 1,000 of 0.
+/// What an ion carries beside its molecule: whether its charge is positive, its m/z less the mass of its formula in
+/// units of 10^-7 Da and within 10^9 of 0, what is added to the molecule's formula, and the least number of twice the
+/// rings and double bonds that a listed formula has, within 1,000 of 0.
 #[derive(Clone, Copy, Debug, PartialEq, Eq)]
 pub struct Adduct {
     pub plus: bool,
@@ -30,15 +31,18 @@ pub struct Adduct {
 
 impl Model for Adduct {
     ghost use Rattle.element_table.specs.Rule.{IsNearZero};
-    ghost use Rattle.adducts.specs.Adduct.{AdductValue};
+    ghost use Rattle.adducts.specs.Adduct.{AdductValue, greatest_bound, greatest_shift};
 
     ghost Value = { AdductValue };
 
-    ghost view = { λ adduct. record { plus = adduct.plus; shift = adduct.shift; extra = adduct.extra; bound = adduct.bound } };
+    ghost view = { λ adduct.
+        record { plus = adduct.plus; shift = adduct.shift; extra = adduct.extra; bound = adduct.bound } };
 
-    ghost invariant = { λ adduct. (IsNearZero 1000000000 adduct.shift) × (IsNearZero 1000 adduct.bound) };
+    ghost invariant = { λ adduct.
+        (IsNearZero greatest_shift adduct.shift) × (IsNearZero greatest_bound adduct.bound) };
 
-    ghost inverse = { λ adduct. record { plus = adduct.plus; shift = adduct.shift; extra = adduct.extra; bound = adduct.bound } };
+    ghost inverse = { λ adduct.
+        record { plus = adduct.plus; shift = adduct.shift; extra = adduct.extra; bound = adduct.bound } };
 }
 
 /// The adduct of a name. `None` exactly where the table does not have the name.
@@ -58,9 +62,9 @@ pub fn by_name(name: &str) -> Option<Adduct>
     None
 }
 
-// What is added to a molecule: ammonia, or nothing.
+/// What is added to a molecule: ammonia, or nothing.
 fn extra(adds_ammonia: bool) -> Formula
-    ensures { result ≡ extra_of adds_ammonia }
+    ensures { result ≡ (if adds_ammonia then ammonia else empty_formula) }
 {
     if adds_ammonia {
         Formula::empty().with(0, 3).with(2, 1)

@@ -30,21 +30,21 @@ pub fn fit(spectrum: &Spectrum, choice: &Choice) -> Fit
     Fit::Usable(mz)
 }
 
-// Whether no charge is named, or one of them is one with the adduct's sign or with no sign.
+/// Whether no charge is named, or one of them is one with the adduct's sign or with no sign.
 fn have_one_that_fits(charges: &[Charge], plus: bool) -> bool
     ensures { result ≡ charges_fit plus charges.now }
 {
     charges.is_empty() || charges.iter().any(|charge| is_single(charge, plus))
 }
 
-// Whether a charge is one with the adduct's sign or with no sign.
+/// Whether a charge is one with the adduct's sign or with no sign.
 fn is_single(charge: &Charge, plus: bool) -> bool
     ensures { result ≡ is_carried plus charge.now }
 {
     charge.value == 1 && has_sign(charge.sign, plus)
 }
 
-// Whether a sign is the adduct's, or none was written.
+/// Whether a sign is the adduct's, or none was written.
 fn has_sign(sign: Sign, plus: bool) -> bool
     ensures { result ≡ agrees plus sign }
 {

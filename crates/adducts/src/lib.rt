@@ -4,15 +4,17 @@
 mod adduct;
 mod choice;
 mod fitting;
+mod laws;
 mod mass_window;
 mod outcome;
 mod selection;
 #[cfg(test)]
 mod tests;
 
-pub use adduct::{ADDUCTS, Adduct, by_name, neutral};
+pub use adduct::{Adduct, by_name, neutral};
 pub use choice::{Choice, half_width, window};
 pub use fitting::{GREATEST_NEUTRAL_MASS, fit};
+pub use laws::{selected_peaks_stand_apart, there_is_one_selection};
 pub use mass_window::Window;
 pub use outcome::Fit;
 pub use selection::select_peaks;

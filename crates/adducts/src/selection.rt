@@ -2,11 +2,11 @@
 ghost use Rattle.std.specs.Prelude.{◌≡◌, ◌≤◌, ◌^◌, ℕ, [], IfOk};
 ghost use Rattle.std.specs.List.{All, filter};
 ghost use Rattle.std.specs.List.Sorted.{IsPermutation, IsSorted};
-ghost use Rattle.adducts.specs.Choosing.{chosen_from, interval_of};
-ghost use Rattle.adducts.specs.Choosing as choosing;
+ghost use Rattle.adducts.specs.inside.Choosing.{chosen_from, interval_of};
+ghost use Rattle.adducts.specs.inside.Choosing as choosing;
 ghost use Rattle.adducts.specs.Fit.{IsUsable, fit_of};
 ghost use Rattle.adducts.specs.declared.outcome.Fit.TheVariants.{Usable};
-ghost use Rattle.adducts.specs.Selected.{LiesBelow, Selected, has_intensity, rank_cmp};
+ghost use Rattle.adducts.specs.Selected.{LiesBelow, Selected, StandApart, has_intensity, rank_cmp};
 
 use crate::choice::{Choice, half_width};
 use mgf_reader::{Peak, Spectrum};
@@ -21,17 +21,21 @@ struct Interval {
 }
 
 /// The selected peaks of a spectrum that can be used, by falling m/z. Peaks without intensity are left out. The others
-/// are looked at by falling intensity, where that is the same by rising m/z, then by rising line: each is selected whose
-/// interval lies wholly below the precursor's and shares no number with that of a peak selected before, until there are
-/// as many as the choice allows.
+/// are looked at by falling intensity, where that is the same by rising m/z, then by rising line: each is selected
+/// whose interval lies wholly below the precursor's and shares no number with that of a peak selected before, until
+/// there are as many as the choice allows.
 pub fn select_peaks(
     alloc: Global,
     spectrum: &Spectrum,
     choice: &Choice,
 ) -> Result<Vec<Peak>, AllocError>
     requires { IsUsable (fit_of spectrum.now choice.now) }
-    ensures selected { (mz : ℕ) → fit_of spectrum.now choice.now ≡ Usable mz → IfOk result (λ selected. Selected choice.now mz spectrum.now.peaks selected.items) }
-    ensures below { (mz : ℕ) → fit_of spectrum.now choice.now ≡ Usable mz → IfOk result (λ selected. All (λ peak. LiesBelow choice.now peak.mz mz) selected.items) }
+    ensures selected { (mz : ℕ) → fit_of spectrum.now choice.now ≡ Usable mz
+        → IfOk result (λ selected. Selected choice.now mz spectrum.now.peaks selected.items) }
+    ensures stand_apart { (mz : ℕ) → fit_of spectrum.now choice.now ≡ Usable mz
+        → IfOk result (λ selected. StandApart choice.now mz spectrum.now.peaks selected.items) }
+    ensures below { (mz : ℕ) → fit_of spectrum.now choice.now ≡ Usable mz
+        → IfOk result (λ selected. All (λ peak. LiesBelow choice.now peak.mz mz) selected.items) }
 {
     let Some(precursor) = spectrum.precursor else {
         unreachable!();
@@ -42,7 +46,7 @@ pub fn select_peaks(
     Ok(selected)
 }
 
-// The peaks that have an intensity, the greatest intensity first, then the least m/z, then the first line.
+/// The peaks that have an intensity, the greatest intensity first, then the least m/z, then the first line.
 fn ranked_peaks(alloc: Global, peaks: &[Peak]) -> Result<Vec<Peak>, AllocError>
     ensures same_peaks { IfOk result (λ ranked. IsPermutation (filter has_intensity peaks.now) ranked.items) }
     ensures in_order { IfOk result (λ ranked. IsSorted rank_cmp ranked.items) }
@@ -53,7 +57,7 @@ fn ranked_peaks(alloc: Global, peaks: &[Peak]) -> Result<Vec<Peak>, AllocError>
     Ok(ranked)
 }
 
-// The ranked peaks that are selected, in their order.
+/// The ranked peaks that are selected, in their order.
 fn choose(
     alloc: Global,
     ranked: &[Peak],
@@ -76,21 +80,21 @@ fn choose(
     Ok(chosen)
 }
 
-// Whether an interval lies wholly below the precursor's and shares no number with those that are taken.
+/// Whether an interval lies wholly below the precursor's and shares no number with those that are taken.
 fn is_free(interval: Interval, precursor: Interval, taken: &[Interval]) -> bool
     ensures { result ≡ choosing.is_free interval precursor taken.now }
 {
     interval.high < precursor.low && taken.iter().all(|other| are_apart(interval, *other))
 }
 
-// Whether two intervals share no number.
+/// Whether two intervals share no number.
 fn are_apart(one: Interval, other: Interval) -> bool
     ensures { result ≡ choosing.is_apart one other }
 {
     one.high < other.low || other.high < one.low
 }
 
-// The interval of an m/z: the numbers at most half a window's width away from it.
+/// The interval of an m/z: the numbers at most half a window's width away from it.
 fn interval_at(choice: &Choice, mz: u64) -> Interval
     requires { mz ≤ 10 ^ 18 }
     ensures { result ≡ interval_of choice.now mz }

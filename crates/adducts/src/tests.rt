@@ -1,5 +1,8 @@
 //! Worked examples of adducts, of spectra that can be used, and of selected peaks.
-use crate::{Choice, Fit, by_name, fit, half_width, neutral, select_peaks, window};
+use crate::{
+    Choice, Fit, by_name, fit, half_width, neutral, select_peaks, selected_peaks_stand_apart,
+    there_is_one_selection, window,
+};
 use element_table::Formula;
 use mgf_reader::{Charge, Charges, Peak, Peaks, Sign, Spectrum, Title};
 use std::alloc::{AllocError, Global};
@@ -217,4 +220,10 @@ fn selects_peaks(rt: HostRuntime) -> Result<(), Fail> {
         assert_eq!(rt; told.as_slice(), wanted);
     }
     Ok(())
+}
+
+#[test]
+fn states_laws() {
+    there_is_one_selection();
+    selected_peaks_stand_apart();
 }

@@ -1,5 +1,5 @@
 use Rattle.std.proofs.Common.{◌≡◌, [], drop, map}
-use Rattle.adducts.specs.Choosing.{chosen_from, interval_of}
+use Rattle.adducts.specs.inside.Choosing.{chosen_from, interval_of}
 use Rattle.adducts.proofs.selection.choose.Given as goal
 
 abbrev pub invariant-loop-peak : goal.invariant-loop-peak

@@ -1,7 +1,7 @@
 use Rattle.std.proofs.Common.{◌≡◌, true, nat_lt, rules, tests, lt-ltb}
 use Rattle.std.proofs.lemmas.Iterator.{YieldsList-from_slice}
 use Rattle.std.proofs.lemmas.Iterator.Search.{all_from_yields_List}
-use Rattle.adducts.specs.Choosing.{is_apart}
+use Rattle.adducts.specs.inside.Choosing.{is_apart}
 use Rattle.adducts.proofs.selection.is_free.Goals as goal
 
 pub returns-then-interval-precursor : goal.returns-then-interval-precursor

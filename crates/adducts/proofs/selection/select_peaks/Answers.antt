@@ -1,13 +1,12 @@
-use Rattle.std.proofs.Common.{◌≡◌, ◌∙◌, List, [], Some, ap, sym, rules, subst}
+use Rattle.std.proofs.Common.{◌≡◌, ◌∙◌, List, [], Some, ap, rules, subst}
 use Rattle.std.specs.List.{filter}
 use Rattle.std.specs.List.Sorted.{IsPermutation}
-use Rattle.std.proofs.lemmas.List.Elements.{All-nil}
-use Rattle.std.proofs.lemmas.List.Sorted.{All-permutation, answers_always}
+use Rattle.std.proofs.lemmas.List.Sorted.{answers_always}
 use Rattle.mgf_reader.specs.Spectrum.{PeakValue}
-use Rattle.adducts.specs.Choosing.{chosen_from}
-use Rattle.adducts.specs.Selected.{LiesBelow, has_intensity}
-use Rattle.adducts.proofs.Lower.{AreLower, lower_from}
+use Rattle.adducts.specs.inside.Choosing.{chosen_from}
+use Rattle.adducts.specs.Selected.{has_intensity}
 use Rattle.adducts.proofs.Marking.{selected_from_chosen}
+use Rattle.adducts.proofs.Standing.{stand_apart}
 use Rattle.adducts.proofs.Usables.{precursor_of_usable}
 use Rattle.adducts.proofs.selection.select_peaks.Goals as goal
 
@@ -26,14 +25,8 @@ returns-clause-selected c mz usable =
     (subst (λ (peaks : List PeakValue). IsPermutation peaks c.sort_unstable_by_key.new.self.items) chosen c.sort_unstable_by_key.ensures.permutation)
     (c.sort_unstable_by_key.ensures.sorted (λ (peak : PeakValue). record { 0 = peak.mz }) (answers_always _ _ _ (λ f a r g h. search rules)))
 
+pub returns-clause-stand_apart : goal.returns-clause-stand_apart
+returns-clause-stand_apart c mz usable = stand_apart c.args.choice.now mz c.args.spectrum.now.peaks c.sort_unstable_by_key.new.self.items (returns-clause-selected c mz usable)
+
 pub returns-clause-below : goal.returns-clause-below
-returns-clause-below c mz usable =
-    let precursor : c.args.spectrum.now.precursor ≡ Some mz = precursor_of_usable c.args.spectrum.now c.args.choice.now mz usable in
-    let inside : c.spectrum.inside.precursor ≡ c.args.spectrum.now.precursor = ap (λ spectrum. spectrum.precursor) c.spectrum.view_is in
-    let same : c.in-Some.precursor ≡ mz = cc in
-    let lower : AreLower c.args.choice.now c.in-Some.precursor (chosen_from c.args.choice.now c.in-Some.precursor [] c.deref.result.now) =
-    lower_from c.args.choice.now c.in-Some.precursor [] c.deref.result.now (All-nil (λ peak. LiesBelow c.args.choice.now peak.mz c.in-Some.precursor))
-    in
-    subst (λ p. AreLower c.args.choice.now p c.sort_unstable_by_key.new.self.items) same
-    (All-permutation (λ peak. LiesBelow c.args.choice.now peak.mz c.in-Some.precursor) c.in_ok-selected.selected.items c.sort_unstable_by_key.new.self.items c.sort_unstable_by_key.ensures.permutation
-    (subst (AreLower c.args.choice.now c.in-Some.precursor) (sym c.in_ok-selected.ensures) lower))
+returns-clause-below c mz usable = (stand_apart c.args.choice.now mz c.args.spectrum.now.peaks c.sort_unstable_by_key.new.self.items (returns-clause-selected c mz usable)).below
