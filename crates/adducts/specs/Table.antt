@@ -12,18 +12,18 @@ ammonia = (3 ∷ 0 ∷ 1 ∷ []) ++ replicate 13 0
 
 -- a row of the table: whether the charge is positive, the shift in units of 10^-7 Da, what is added to the molecule,
 -- and the least number of twice the rings and double bonds
-abbrev pub row : Bool → ℤ → List ℕ → ℤ → AdductValue
-row plus shift extra bound = record { plus = plus; shift = shift; extra = extra; bound = bound }
+abbrev pub adduct_row : Bool → ℤ → List ℕ → ℤ → AdductValue
+adduct_row plus shift extra bound = record { plus = plus; shift = shift; extra = extra; bound = bound }
 
 -- the table, each row beside its name
 abbrev pub adducts : List (List ℕ × AdductValue)
 adducts =
-    (codes "[M+H]+", row true (pos 10072764) empty_formula (neg_ℤ (pos 1)))
-    ∷ (codes "[M+NH4]+", row true (pos 10072764) ammonia (neg_ℤ (pos 3)))
-    ∷ (codes "[M+Na]+", row true (pos 229892207) empty_formula (neg_ℤ (pos 1)))
-    ∷ (codes "[M+K]+", row true (pos 389631579) empty_formula (neg_ℤ (pos 1)))
-    ∷ (codes "[M-H]-", row false (neg_ℤ (pos 10072764)) empty_formula (neg_ℤ (pos 1)))
-    ∷ (codes "[M+Cl]-", row false (pos 349694013) empty_formula (neg_ℤ (pos 1)))
+    (codes "[M+H]+", adduct_row true (pos 10072764) empty_formula (neg_ℤ (pos 1)))
+    ∷ (codes "[M+NH4]+", adduct_row true (pos 10072764) ammonia (neg_ℤ (pos 3)))
+    ∷ (codes "[M+Na]+", adduct_row true (pos 229892207) empty_formula (neg_ℤ (pos 1)))
+    ∷ (codes "[M+K]+", adduct_row true (pos 389631579) empty_formula (neg_ℤ (pos 1)))
+    ∷ (codes "[M-H]-", adduct_row false (neg_ℤ (pos 10072764)) empty_formula (neg_ℤ (pos 1)))
+    ∷ (codes "[M+Cl]-", adduct_row false (pos 349694013) empty_formula (neg_ℤ (pos 1)))
     ∷ []
 
 -- the adduct of a name, where the table has the name

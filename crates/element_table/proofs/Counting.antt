@@ -1,4 +1,4 @@
--- Of count_of and is_count: the count of a piece, digit by digit.
+-- Of count_of_digits and is_count: the count of a piece, digit by digit.
 use Rattle.std.proofs.Common.{◌≡◌, ◌<◌, ◌≤◌, ◌+◌, ◌-◌, ◌*◌, ℕ, zero, suc, Bool, true, false, not, cond, below_more, List, [], ◌∷◌, Some, None, length, take, get_or, min, eqb, refl, sym, ap, ◌∙◌, arith}
 use Rattle.std.specs.Bool.{MatchBool}
 use Rattle.std.specs.Char.{IsAsciiDigit, IsNotAsciiDigit, is_ascii_digit, digit_value}
@@ -8,7 +8,7 @@ use Rattle.std.proofs.lemmas.Int.Digits.{digits_value_more}
 use Rattle.std.proofs.lemmas.Bool.{and_left, and_right, ne_eqb}
 use Rattle.std.proofs.lemmas.Bool.Decides.{nat_tests}
 use Rattle.std.proofs.lemmas.List.{take_all}
-use Rattle.element_table.specs.FormulaReading.{is_count, count_of}
+use Rattle.element_table.specs.FormulaReading.{is_count, count_of_digits}
 
 -- the digits so far are digits, and write this count, or more than a formula may have
 pub record ReadsDigits (digits : List ℕ) (i count : ℕ) : Type 0 where
@@ -43,7 +43,7 @@ ReadsDigits-more digits i count more is within told cases holds more_is reads =
 
 -- digits of which the first is no zero are a count
 pub is_read : (digits : List ℕ) (i count : ℕ) → eqb (length digits) 0 ≡ false → (get_or digits 0 0 ≡ 48 → ⊥) → length digits ≤ i → ReadsDigits digits i count
-    → Some count ≡ cond (is_count digits) (Some (min 2000 (count_of digits))) None
+    → Some count ≡ cond (is_count digits) (Some (min 2000 (count_of_digits digits))) None
 is_read [] i count some no_nought ends reads = (cc)
 is_read (digit ∷ digits) i count some no_nought ends reads =
     let other : eqb digit 48 ≡ false = ne_eqb digit 48 no_nought in

@@ -10,10 +10,10 @@ use Rattle.std.proofs.lemmas.List.Sums.{AllPass-from_list_all, list_all-from_All
 use Rattle.element_table.specs.Elements.{symbols}
 use Rattle.element_table.specs.Formula.{IsFormula, empty_formula}
 use Rattle.element_table.specs.FormulaText.{element_text, formula_text, printed_places}
-use Rattle.element_table.specs.FormulaReading.{count_of, digits_of, formula_of, formula_of_pieces, is_count, is_known, pieces_of, share_of, symbol_of, total_of, totals_of}
+use Rattle.element_table.specs.FormulaReading.{count_of_digits, digits_of, formula_of, formula_of_pieces, is_count, is_known, pieces_of, share_of, symbol_of, total_of, totals_of}
 use Rattle.element_table.specs.declared.reading.FormulaFault.TheVariants.{CountTooLarge, NoFormula, UnknownElement}
 use Rattle.element_table.proofs.Pieces.{Begins}
-use Rattle.element_table.proofs.PrintedPieces.{count_of-count_text, count_text, is_symbol, pieces_of-part, symbol_of-part}
+use Rattle.element_table.proofs.PrintedPieces.{count_of_digits-count_text, count_text, is_symbol, pieces_of-part, symbol_of-part}
 use Rattle.element_table.proofs.ReadAll.{fits}
 use Rattle.element_table.proofs.ReadSoFar.{formula_of-dash, formula_of-pieces, has_count, has_element, nought}
 
@@ -49,7 +49,7 @@ pieces_of-printed counts (place ∷ places) all = step (eqb (counts place) 0) re
     step true is later = later
     step false is later =
         let some : 0 < counts place = omega (arith, eqb-false (counts place) 0 is) in
-        let digits = (count_of-count_text (counts place) some all.0.fits).0 in
+        let digits = (count_of_digits-count_text (counts place) some all.0.fits).0 in
         let first = pieces_of-part (symbol_at place) (count_text (counts place)) (text_at counts places) all.0.symbol digits later.1 in
         (first.0 ∙ ap (λ pieces. (symbol_at place ++ count_text (counts place)) ∷ pieces) later.0, first.1)
 
@@ -65,7 +65,7 @@ good-printed counts (place ∷ places) all = step (eqb (counts place) 0) refl (g
     step true is later = later
     step false is later =
         let some : 0 < counts place = omega (arith, eqb-false (counts place) 0 is) in
-        let count = count_of-count_text (counts place) some all.0.fits in
+        let count = count_of_digits-count_text (counts place) some all.0.fits in
         let parts = symbol_of-part (symbol_at place) (count_text (counts place)) all.0.symbol count.0 in
         let has : has_count (symbol_at place ++ count_text (counts place)) ≡ true = ap is_count parts.1 ∙ count.1 in
         let element : has_element (symbol_at place ++ count_text (counts place)) ≡ true = ap is_known parts.0 ∙ all.0.known in
@@ -90,11 +90,11 @@ total_of-printed counts (place ∷ places) element all = step (eqb (counts place
         omega arith
     step false is later =
         let some : 0 < counts place = omega (arith, eqb-false (counts place) 0 is) in
-        let count = count_of-count_text (counts place) some all.0.fits in
+        let count = count_of_digits-count_text (counts place) some all.0.fits in
         let parts = symbol_of-part (symbol_at place) (count_text (counts place)) all.0.symbol count.0 in
         let piece : List ℕ = symbol_at place ++ count_text (counts place) in
-        let share : share_of element (symbol_of piece) (count_of (digits_of piece)) ≡ share_of element (symbol_at place) (counts place) =
-        ap (λ symbol. share_of element symbol (count_of (digits_of piece))) parts.0 ∙ ap (share_of element (symbol_at place)) (ap count_of parts.1 ∙ count.2) in
+        let share : share_of element (symbol_of piece) (count_of_digits (digits_of piece)) ≡ share_of element (symbol_at place) (counts place) =
+        ap (λ symbol. share_of element symbol (count_of_digits (digits_of piece))) parts.0 ∙ ap (share_of element (symbol_at place)) (ap count_of_digits parts.1 ∙ count.2) in
         sum_by-cons _ piece (printed_pieces counts places) ∙ (λ i. share i + later i)
 
 -- of all printed places, one has the symbol of a place

@@ -8,7 +8,7 @@ use Rattle.std.specs.Str.Parse.{digits_value}
 use Rattle.std.proofs.lemmas.Bool.{and_left, and_parts, and_right, eqb-true, leb-true, lt-leb, ne_eqb}
 use Rattle.std.proofs.lemmas.Fmt.{decimal_nonempty, digits_decimal, digits_value-decimal, first_decimal}
 use Rattle.std.proofs.lemmas.Str.Parse.{IsNumeralModel, numerals_by_value, tells_all_ascii_digits}
-use Rattle.element_table.specs.FormulaReading.{count_of, digits_of, is_count, pieces_of, symbol_of}
+use Rattle.element_table.specs.FormulaReading.{count_of_digits, digits_of, is_count, pieces_of, symbol_of}
 use Rattle.element_table.proofs.Pieces.{Begins, inner_len}
 
 -- the digits of a count, of which one is left out
@@ -80,18 +80,18 @@ symbol_of-part (capital ∷ small ∷ []) digits is all =
 symbol_of-part (capital ∷ small ∷ other ∷ bytes) digits is all = (cc)
 
 -- the digits of a count are a count, and write it
-pub count_of-count_text : (count : ℕ) → 0 < count → count < 2 ^ 64
-    → (all_ascii_digits (count_text count) ≡ true) × (is_count (count_text count) ≡ true) × (count_of (count_text count) ≡ count)
-count_of-count_text count some fits = step (eqb count 1) refl
+pub count_of_digits-count_text : (count : ℕ) → 0 < count → count < 2 ^ 64
+    → (all_ascii_digits (count_text count) ≡ true) × (is_count (count_text count) ≡ true) × (count_of_digits (count_text count) ≡ count)
+count_of_digits-count_text count some fits = step (eqb count 1) refl
   where
     written : (digits : List ℕ) → all_ascii_digits digits ≡ true → 0 < length digits → 48 < get_or digits 0 0 → digits_value 10 digits ≡ count
-        → (all_ascii_digits digits ≡ true) × (is_count digits ≡ true) × (count_of digits ≡ count)
+        → (all_ascii_digits digits ≡ true) × (is_count digits ≡ true) × (count_of_digits digits ≡ count)
     written [] all long first value = absurd (omega arith)
     written (digit ∷ digits) all long first value =
         let other : eqb digit 48 ≡ false = ne_eqb digit 48 (λ same. omega arith) in
         (all, rw (other, all) refl, value)
 
     step : (b : Bool) → eqb count 1 ≡ b
-        → (all_ascii_digits (cond b [] (decimal count)) ≡ true) × (is_count (cond b [] (decimal count)) ≡ true) × (count_of (cond b [] (decimal count)) ≡ count)
+        → (all_ascii_digits (cond b [] (decimal count)) ≡ true) × (is_count (cond b [] (decimal count)) ≡ true) × (count_of_digits (cond b [] (decimal count)) ≡ count)
     step true is = (refl, refl, sym (eqb-true count 1 is))
     step false is = written (decimal count) (digits_decimal own count fits) (decimal_nonempty count fits) (first_decimal count some fits) (digits_value-decimal own count fits)

@@ -10,7 +10,7 @@ use Rattle.std.specs.List.{before_first, list_all}
 use Rattle.std.specs.Str.{bytes_eq}
 use Rattle.element_table.specs.Elements.{symbols}
 use Rattle.element_table.specs.Formula.{empty_formula}
-use Rattle.element_table.specs.FormulaReading.{count_of, digits_of, formula_of, formula_of_pieces, is_count, is_formula_text, is_known, pieces_of, share_of, symbol_of, total_of}
+use Rattle.element_table.specs.FormulaReading.{count_of_digits, digits_of, formula_of, formula_of_pieces, is_count, is_formula_text, is_known, pieces_of, share_of, symbol_of, total_of}
 use Rattle.element_table.specs.declared.reading.FormulaFault.TheVariants.{NoFormula}
 use Rattle.element_table.proofs.Pieces.{Begins, pieces_of-first}
 
@@ -89,7 +89,7 @@ within_cap n place below past = elim (cases_lt place 11) [ inl within ↦ below 
 -- one more piece, of a count and an element that may be known
 pub ReadSoFar-more : (text rest later totals new piece : List ℕ) (count : ℕ) (known more : Bool) → ReadSoFar text rest totals known
     → 0 < length rest → piece ≡ get_or rest 0 0 ∷ before_first is_ascii_uppercase (drop 1 rest) → later ≡ drop (length piece) rest
-    → Some count ≡ cond (is_count (digits_of piece)) (Some (min 2000 (count_of (digits_of piece)))) None
+    → Some count ≡ cond (is_count (digits_of piece)) (Some (min 2000 (count_of_digits (digits_of piece)))) None
     → more ≡ is_known (symbol_of piece) → length new ≡ 16
     → ((place : ℕ) → place < 11 → get_or new place 0 ≡ min 2000 (get_or totals place 0 + share_of (get_or symbols place []) (symbol_of piece) count))
     → ((place : ℕ) → 11 ≤ place → get_or new place 0 ≡ get_or totals place 0)
@@ -98,7 +98,7 @@ ReadSoFar-more text [] later totals new piece count known more reads some piece_
 ReadSoFar-more text (byte ∷ bytes) later totals new piece count known more reads some piece_is later_is some_is more_is long added others =
     let first = pieces_of-first byte bytes piece reads.begins piece_is in
     let pieces : pieces_of (byte ∷ bytes) ≡ piece ∷ pieces_of later = first.0 ∙ ap (λ text. piece ∷ pieces_of text) (sym later_is) in
-    let good = some_count (is_count (digits_of piece)) (min 2000 (count_of (digits_of piece))) count some_is in
+    let good = some_count (is_count (digits_of piece)) (min 2000 (count_of_digits (digits_of piece))) count some_is in
     record {
       places = long;
       begins = rw later_is first.1;
@@ -106,10 +106,10 @@ ReadSoFar-more text (byte ∷ bytes) later totals new piece count known more rea
       elements = reads.elements ∙ ap (λ ps. known && list_all has_element ps) pieces ∙ ap (λ b. known && (b && list_all has_element (pieces_of later))) (sym more_is) ∙ and-middle known more _;
       total = λ place within.
           let element : List ℕ = get_or symbols place [] in
-          let sum : total_of (pieces_of (byte ∷ bytes)) element ≡ share_of element (symbol_of piece) (count_of (digits_of piece)) + total_of (pieces_of later) element = ap (λ ps. total_of ps element) pieces ∙ sum_by-cons _ piece (pieces_of later) in
+          let sum : total_of (pieces_of (byte ∷ bytes)) element ≡ share_of element (symbol_of piece) (count_of_digits (digits_of piece)) + total_of (pieces_of later) element = ap (λ ps. total_of ps element) pieces ∙ sum_by-cons _ piece (pieces_of later) in
           reads.total place within
           ∙ ap (λ n. min 2000 (get_or totals place 0 + n)) sum
-          ∙ share-capped (bytes_eq element (symbol_of piece)) (count_of (digits_of piece)) count (get_or totals place 0) (total_of (pieces_of later) element) good.1
+          ∙ share-capped (bytes_eq element (symbol_of piece)) (count_of_digits (digits_of piece)) count (get_or totals place 0) (total_of (pieces_of later) element) good.1
           ∙ ap (λ n. min 2000 (n + total_of (pieces_of later) element)) (sym (added place within));
       capped = λ place. within_cap (get_or new place 0) place (λ within. let is = added place within in omega arith) (λ past. let same = others place past in let cap = reads.capped place in omega arith);
       others = λ place past. others place past ∙ reads.others place past;

@@ -9,7 +9,7 @@ use Rattle.std.proofs.lemmas.List.Sums.{AllPass-from_list_all}
 use Rattle.element_table.specs.Formula.{IsFormula}
 use Rattle.element_table.specs.FormulaText.{element_text, formula_text, printed_places}
 use Rattle.element_table.proofs.Printed.{IsPrinted, are_printed, some_atom, symbol_at, text_at}
-use Rattle.element_table.proofs.PrintedPieces.{count_of-count_text, count_text, digit-bounds}
+use Rattle.element_table.proofs.PrintedPieces.{count_of_digits-count_text, count_text, digit-bounds}
 
 -- neither a space nor a control
 abbrev visible : ℕ → Bool
@@ -30,7 +30,7 @@ part_visible counts place printed symbol = step (eqb (counts place) 0) refl
     step true is = refl
     step false is =
         let some : 0 < counts place = omega (arith, eqb-false (counts place) 0 is) in
-        let digits = (count_of-count_text (counts place) some printed.fits).0 in
+        let digits = (count_of_digits-count_text (counts place) some printed.fits).0 in
         list_all-append visible (symbol_at place) (count_text (counts place)) ∙ and_from (list_all visible (symbol_at place)) (list_all visible (count_text (counts place))) symbol (digits_visible (count_text (counts place)) digits)
 
 parts_visible : (counts : ℕ → ℕ) (places : List ℕ) → AllByRecursion (IsPrinted counts) places → AllByRecursion (λ place. list_all visible (symbol_at place) ≡ true) places

@@ -33,9 +33,9 @@ is_count [] = true
 is_count (digit ∷ digits) = not (digit == 48) && all_ascii_digits (digit ∷ digits)
 
 -- the number that the digits write, and one where there is none
-abbrev pub count_of : List ℕ → ℕ
-count_of [] = 1
-count_of (digit ∷ digits) = digits_value 10 (digit ∷ digits)
+abbrev pub count_of_digits : List ℕ → ℕ
+count_of_digits [] = 1
+count_of_digits (digit ∷ digits) = digits_value 10 (digit ∷ digits)
 
 -- symbols, at least one, each with a count
 abbrev pub is_formula_text : List ℕ → Bool
@@ -53,7 +53,7 @@ share_of element symbol count = if bytes_eq element symbol then count else 0
 
 -- how many atoms of an element the pieces have in all
 abbrev pub total_of : List (List ℕ) → List ℕ → ℕ
-total_of pieces element = sum_by (λ piece. share_of element (symbol_of piece) (count_of (digits_of piece))) pieces
+total_of pieces element = sum_by (λ piece. share_of element (symbol_of piece) (count_of_digits (digits_of piece))) pieces
 
 -- the same by places; a place without an element has none
 abbrev pub totals_of : List (List ℕ) → List ℕ

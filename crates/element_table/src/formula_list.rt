@@ -29,6 +29,7 @@ impl Formulas {
     pub fn of(items: Vec<Formula>) -> Formulas
         ensures { result ≡ items.items }
     {
+        // tells what each item is, for the invariant; nothing is done
         for formula in &items {
             formula.is_formula();
         }

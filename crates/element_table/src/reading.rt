@@ -4,7 +4,8 @@ ghost use Rattle.std.specs.Prelude.{nat_le, nat_lt, slice_index, slice_index_or}
 ghost use Rattle.std.specs.Char.{is_ascii_uppercase};
 ghost use Rattle.std.specs.List.{before_first, list_all, position, position_or_len};
 ghost use Rattle.element_table.specs.Elements.{element_count, greatest_count, symbols};
-ghost use Rattle.element_table.specs.FormulaReading.{count_of, digits_of, formula_of, is_count, is_known, share_of};
+ghost use Rattle.element_table.specs.FormulaReading.{count_of_digits, digits_of, formula_of, is_count, is_known};
+ghost use Rattle.element_table.specs.FormulaReading.{share_of};
 ghost use Rattle.element_table.specs.FormulaReading.{symbol_of};
 
 use crate::elements::{ELEMENTS, FORMULA_PLACES, GREATEST_COUNT, symbol_at};
@@ -101,7 +102,7 @@ fn split_symbol(piece: &[u8]) -> (&[u8], &[u8])
 
 /// The number that digits write, one where there is none, and what is too many where it is more than that.
 fn read_count(digits: &[u8]) -> Option<u16>
-    ensures { result ≡ (if is_count digits.now then Some (min TOO_MANY (count_of digits.now)) else None) }
+    ensures { result ≡ (if is_count digits.now then Some (min TOO_MANY (count_of_digits digits.now)) else None) }
 {
     if digits.is_empty() {
         return Some(1);
