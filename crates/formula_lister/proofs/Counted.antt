@@ -1,11 +1,10 @@
 -- How the elements that are counted grow by one more place of the table.
-use Rattle.std.proofs.Common.{◌≡◌, ◌≤◌, ◌<◌, ◌+◌, ◌*◌, ℕ, List, [], ◌∷◌, slice_index, inl, inr, arith, refl, sym, leb, ltb}
-use borrow.Author.Tests.{leb-true, ltb-true}
-use Rattle.std.proofs.lemmas.List.Sums.{AllPass-from_list_all}
+use Rattle.std.proofs.Common.{◌≡◌, ◌≤◌, ◌<◌, ◌+◌, ◌*◌, ℕ, List, [], ◌∷◌, slice_index, inl, inr, arith, sym}
 use Rattle.std.proofs.lemmas.Nat.{mul-le}
 use Rattle.std.proofs.Math.Nat.{eq-or-lt_of_le}
 use Rattle.std.specs.List.{AllByRecursion}
-use Rattle.element_table.specs.Elements.{masses}
+use Rattle.element_table.specs.Elements.{element_count, greatest_count, heaviest_atom, masses}
+use Rattle.element_table.specs.Window.{greatest_half_width}
 use Rattle.element_table.specs.Formula.{IsFormula}
 use Rattle.formula_lister.specs.declared.element.Element.{Element}
 use Rattle.formula_lister.specs.inside.Elements.{AreElements, IsUncounted, reach_of}
@@ -14,18 +13,10 @@ use Rattle.formula_lister.specs.inside.Elements.{AreElements, IsUncounted, reach
 pub record AreCounted (limits : List ℕ) (place after : ℕ) (elements : List Element) : Type 0 where
   pub known : AreElements limits elements
   pub reach : after ≡ reach_of elements
-  pub small : after ≤ place * (1999 * 1269044719)
+  pub small : after ≤ place * (greatest_count * heaviest_atom)
   pub lower : AllByRecursion (λ element. element.place < place) elements
   pub others : (k : ℕ) → k < place → IsUncounted elements k → slice_index limits k ≡ 0
   pub formula : 0 < place → IsFormula limits
-
--- the heaviest element is iodine
-mass-le_heaviest : (place : ℕ) → place < 11 → slice_index masses place ≤ 1269044719
-mass-le_heaviest place h = leb-true _ _ (AllPass-from_list_all (λ mass. leb mass 1269044719) masses refl place 0 h)
-
--- every atom is heavier than a window is wide
-mass-gt_width : (place : ℕ) → place < 11 → 4000000 < slice_index masses place
-mass-gt_width place h = ltb-true _ _ (AllPass-from_list_all (λ mass. ltb 4000000 mass) masses refl place 0 h)
 
 lower_more : (place : ℕ) (elements : List Element) → AllByRecursion (λ element. element.place < place) elements → AllByRecursion (λ element. element.place < place + 1) elements
 lower_more place [] lower = tt
@@ -46,18 +37,17 @@ AreCounted-without limits place after elements formula none h = record {
 }
 
 -- and one with a positive limit is counted before the others
-pub AreCounted-with : (limits : List ℕ) (element : Element) (elements : List Element) → IsFormula limits → element.place < 11 → element.mass ≡ slice_index masses element.place → element.limit ≡ slice_index limits element.place → AreCounted limits element.place element.after elements → AreCounted limits (element.place + 1) (element.after + element.limit * element.mass) (element ∷ elements)
-AreCounted-with limits element elements formula inside weighed limited h =
-    let capped : element.limit ≤ 1999 = omega (arith, formula.capped element.place) in
-    let light : element.mass ≤ 1269044719 = omega (arith, mass-le_heaviest element.place inside) in
-    let bound : element.limit * element.mass ≤ 1999 * 1269044719 = mul-le _ _ _ _ capped light in
+pub AreCounted-with : (limits : List ℕ) (element : Element) (elements : List Element) → IsFormula limits → element.place < element_count → element.mass ≡ slice_index masses element.place → 2 * greatest_half_width < element.mass → element.mass ≤ heaviest_atom → element.limit ≡ slice_index limits element.place → AreCounted limits element.place element.after elements → AreCounted limits (element.place + 1) (element.after + element.limit * element.mass) (element ∷ elements)
+AreCounted-with limits element elements formula inside weighed heavy light limited h =
+    let capped : element.limit ≤ greatest_count = omega (arith, formula.capped element.place) in
+    let bound : element.limit * element.mass ≤ greatest_count * heaviest_atom = mul-le _ _ _ _ capped light in
     record {
       known = (
         record {
           known = record {
             place = inside;
             weighed = weighed;
-            heavy = omega (arith, mass-gt_width element.place inside);
+            heavy = heavy;
             light = light;
             capped = capped;
             reach = omega (arith, h.small);

@@ -1,5 +1,6 @@
 //! The counts chosen so far, and what they have to keep.
-ghost use Rattle.std.specs.Prelude.{◌≡◌, ◌≤◌, ◌+◌, ◌*◌, ◌^◌, ◌↔◌, ◌+ℤ◌, ◌-ℤ◌, ◌≤ℤ◌, pos, ℕ, List, slice_index, slice_set, IfSome, IfNone};
+ghost use Rattle.std.specs.Prelude.{◌≡◌, ◌≤◌, ◌+◌, ◌*◌, ◌^◌, ◌↔◌, ◌+ℤ◌, ◌-ℤ◌, ◌≤ℤ◌, pos, ℕ, List};
+ghost use Rattle.std.specs.Prelude.{slice_index, slice_set, IfSome, IfNone};
 ghost use Rattle.element_table.specs.Formula.{empty_formula, mass_of};
 ghost use Rattle.element_table.specs.Window.{InWindow, greatest_half_width};
 ghost use Rattle.formula_lister.specs.inside.Elements.{IsKnown};

@@ -1,5 +1,5 @@
-//! Lists the formulas of a window by plain counting: over every element but the last as far as the masses and the limits
-//! allow, with the count of the last one computed.
+//! Lists the formulas of a window by plain counting: over every element but the last as far as the masses and the
+//! limits allow, with the count of the last one computed.
 ghost use Rattle.std.specs.Prelude.{◌≡◌, ◌≤◌, ◌<◌, ◌+◌, ◌^◌, [], ◌∷◌, Err, length, slice_set, OnOk};
 ghost use Rattle.element_table.specs.FormulaList.{greatest_list};
 ghost use Rattle.formula_lister.specs.inside.Counting.{Completes, Gains, Overfills, IsOne, IsReady, IsLeftOver};

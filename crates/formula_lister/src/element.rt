@@ -1,9 +1,9 @@
 //! The elements that are counted: those with a positive limit.
 ghost use Rattle.std.specs.Prelude.{◌≡◌, ◌≤◌, ◌<◌, ◌+◌, ◌*◌, ◌^◌, ◌↔◌, ℕ, length, slice_index, IfOk};
-ghost use Rattle.element_table.specs.Elements.{masses};
+ghost use Rattle.element_table.specs.Elements.{formula_places};
 ghost use Rattle.formula_lister.specs.inside.Elements.{AreElements, IsUncounted, IsKnown};
 
-use element_table::{ELEMENTS, FORMULA_PLACES};
+use element_table::{ELEMENTS, mass_at};
 use profile::Limits;
 use std::alloc::{AllocError, Global};
 
@@ -46,19 +46,11 @@ impl Element {
     }
 }
 
-/// The mass of an atom of an element, in units of 10^-7 Da.
-fn atom_mass(place: usize) -> u64
-    requires { place < length ELEMENTS }
-    ensures { result ≡ slice_index masses place }
-{
-    ELEMENTS[place].1
-}
-
-/// The elements of positive limit, that at the last place first. So carbon and hydrogen, which have the most counts, come
-/// last.
+/// The elements of positive limit, that at the last place first. So carbon and hydrogen, which have the most counts,
+/// come last.
 pub(crate) fn counted_elements(alloc: Global, limits: &Limits) -> Result<Vec<Element>, AllocError>
     ensures elements { IfOk result (λ elements. AreElements limits.now elements.items) }
-    ensures places { IfOk result (λ _. length limits.now ≡ FORMULA_PLACES) }
+    ensures places { IfOk result (λ _. length limits.now ≡ formula_places) }
     ensures others { IfOk result (λ elements. (place : ℕ)
         → IsUncounted elements.items place → slice_index limits.now place ≡ 0) }
 {
@@ -67,7 +59,7 @@ pub(crate) fn counted_elements(alloc: Global, limits: &Limits) -> Result<Vec<Ele
     for place in 0..ELEMENTS.len() {
         let limit = u64::from(limits.at(place));
         if limit > 0 {
-            let mass = atom_mass(place);
+            let mass = mass_at(place);
             elements.insert(
                 0,
                 Element {

@@ -1,12 +1,12 @@
 //! A rule over the counts of a formula, and the two rules that every run has.
 ghost use Rattle.std.specs.Prelude.{◌≡◌, ◌≤◌, ◌*◌, ◌*ℤ◌, ◌<◌, ◌↔◌, IsTrue, pos, slice_index_or};
-ghost use Rattle.element_table.specs.Elements.{element_count, greatest_count};
+ghost use Rattle.element_table.specs.Elements.{greatest_count};
 ghost use Rattle.element_table.specs.Rule.{Holds, IsNearZero, Passes};
 ghost use Rattle.element_table.specs.Rule.{bond_coefficients, fragment_rule_of, neutral_rule_of, value_of};
 ghost use Rattle.element_table.specs.Listed.{has_parity, holds, passes};
 ghost use Rattle.valence_filter.specs.Parity.{parity_of};
 
-use element_table::{ELEMENTS, FORMULA_PLACES, Formula};
+use element_table::{ELEMENTS, FORMULA_PLACES, Formula, bond_number_at};
 use std::marker::Model;
 
 /// Which whole numbers a rule takes.
@@ -104,17 +104,9 @@ fn bond_numbers() -> [i32; FORMULA_PLACES]
 {
     let mut numbers = [0; FORMULA_PLACES];
     for place in 0..ELEMENTS.len() {
-        numbers[place] = bond_number(place);
+        numbers[place] = bond_number_at(place);
     }
     numbers
-}
-
-/// The same for the element at a place.
-fn bond_number(place: usize) -> i32
-    requires { place < element_count }
-    ensures { result ≡ slice_index_or bond_coefficients place (pos 0) }
-{
-    i32::from(ELEMENTS[place].2) - 2
 }
 
 /// The rule that twice the ring and double bond equivalent is at least the bound.

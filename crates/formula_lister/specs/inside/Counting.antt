@@ -16,8 +16,8 @@ pub record IsReady (bounds : Bounds) (elements : List Element) (chosen : List �
   pub places : length chosen ≡ formula_places
   pub within_limits : IsWithin chosen bounds.limits
 
--- beside the chosen counts and one of the next element, the rest of the greatest mass holds so many atoms of the last element, and
--- less than one more
+-- beside the chosen counts and one of the next element, the rest of the greatest mass holds so many atoms of the last
+-- element, and less than one more
 pub record IsRest (bounds : Bounds) (next last : Element) (chosen : List ℕ) (count atoms over : ℕ) : Type 0 where
   pub ready : IsReady bounds (next ∷ last ∷ []) chosen
   pub within_limit : count ≤ next.limit
@@ -38,7 +38,8 @@ pub record IsCandidate (bounds : Bounds) (rules : List Rule) (counts : List ℕ)
   pub passes : Passes rules counts
 
 -- a candidate with the chosen count at every place but those of some elements
-pub record Completes (bounds : Bounds) (rules : List Rule) (elements : List Element) (chosen counts : List ℕ) : Type 0 where
+pub record Completes (bounds : Bounds) (rules : List Rule) (elements : List Element) (chosen counts : List ℕ)
+    : Type 0 where
   pub candidate : IsCandidate bounds rules counts
   pub shares : (place : ℕ) → IsUncounted elements place → slice_index counts place ≡ slice_index chosen place
 

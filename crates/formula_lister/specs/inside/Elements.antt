@@ -1,7 +1,7 @@
 -- The elements that are counted, one after another.
-use Rattle.std.specs.Prelude.{◌≡◌, ◌≢◌, ◌≤◌, ◌<◌, ◌+◌, ◌*◌, ℕ, List, [], ◌∷◌, length, slice_index}
+use Rattle.std.specs.Prelude.{◌≡◌, ◌≢◌, ◌≤◌, ◌<◌, ◌+◌, ◌*◌, ℕ, List, [], ◌∷◌, slice_index}
 use Rattle.std.specs.List.{AllByRecursion}
-use Rattle.element_table.specs.Elements.{element_count, greatest_count, masses}
+use Rattle.element_table.specs.Elements.{element_count, greatest_count, heaviest_atom, masses}
 use Rattle.element_table.specs.Window.{greatest_half_width}
 use Rattle.formula_lister.specs.declared.element.Element.{Element}
 
@@ -15,9 +15,9 @@ pub record IsKnown (element : Element) : Type 0 where
   pub place : element.place < element_count
   pub weighed : element.mass ≡ slice_index masses element.place
   pub heavy : 2 * greatest_half_width < element.mass
-  pub light : element.mass ≤ 1269044719
+  pub light : element.mass ≤ heaviest_atom
   pub capped : element.limit ≤ greatest_count
-  pub reach : element.after ≤ 10 * (1999 * 1269044719)
+  pub reach : element.after ≤ 10 * (greatest_count * heaviest_atom)
 
 -- an element with its limit, counted before others
 pub record IsFirst (limits : List ℕ) (element : Element) (others : List Element) : Type 0 where
