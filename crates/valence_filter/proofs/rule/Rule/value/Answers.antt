@@ -1,6 +1,6 @@
 use Rattle.std.proofs.Common.{get_or, pos, arith, w32, FitsSigned}
 use Rattle.std.proofs.lemmas.Int.{ints, to_z-of_z}
-use Rattle.valence_filter.proofs.Values.{value-more}
+use Rattle.element_table.proofs.LinearSums.{value-more}
 use Rattle.valence_filter.proofs.rule.Rule.value.Goals as goal
 
 pub loop-place-preserved : goal.loop-place-preserved
