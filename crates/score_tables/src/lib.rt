@@ -1,0 +1,13 @@
+//! The tables that scores are read from, and the scores of peaks, errors and losses.
+#![tactic(auto)]
+
+mod default;
+mod laws;
+mod scores;
+mod table;
+
+pub use laws::{default_losses_are_named, losses_score_as_given, some_losses_score_so};
+pub use scores::Scores;
+
+#[cfg(test)]
+mod tests;

@@ -1,0 +1,156 @@
+//! The tables of a run, and the scores that are read from them.
+ghost use Rattle.std.specs.Prelude.{◌≡◌, ◌≢◌, ◌≤◌, ◌*◌, ◌^◌, ◌+◌, IfOk, IsTrue, min, pos, unwrap_or};
+ghost use Rattle.std.specs.FinMap.{find, is_sorted};
+ghost use Rattle.element_table.specs.Formula.{empty_formula, formula_cmp};
+ghost use Rattle.element_table.specs.Rule.{IsNearZero, rdbe2_of};
+ghost use Rattle.score_tables.specs.Default.{default_scores};
+ghost use Rattle.score_tables.specs.Scores.{error_score_of, loss_score_of, peak_score_of, size_cost_of, unnamed_score_of};
+ghost use Rattle.score_tables.specs.Tables.{IsScores, in_formula_order};
+
+use crate::default::{
+    DEFAULT_ERROR, DEFAULT_IMPLAUSIBLE, DEFAULT_INTENSITY, DEFAULT_NAMED, DEFAULT_NEGATIVE,
+    DEFAULT_RADICAL, DEFAULT_SIZE, losses_of,
+};
+use crate::table::{at_least_score, at_most_score, share, sort_losses, table_score};
+use element_table::{ELEMENTS, Formula};
+use std::alloc::{AllocError, Global};
+use std::marker::Model;
+
+/// The greatest cost of a loss for its mass.
+const GREATEST_COST: u64 = 2_000;
+
+/// The tables that the scores of a run are read from. Scores are whole numbers within 2,000 of 0. The losses of a table stand
+/// in formula order.
+#[derive(Debug, Drop)]
+pub struct Scores {
+    intensity: Vec<(u16, i16)>,
+    error: Vec<(u16, i16)>,
+    named: Vec<(Formula, i16)>,
+    implausible: Vec<(Formula, i16)>,
+    radical: i16,
+    negative: i16,
+    size: u32,
+}
+
+impl Model for Scores {
+    ghost use Rattle.score_tables.specs.Tables.{ScoresValue, IsScores, AreSorted};
+
+    ghost Value = { ScoresValue };
+
+    ghost view = { λ scores. record { intensity = scores.intensity.items; error = scores.error.items; named = scores.named.items; implausible = scores.implausible.items; radical = scores.radical; negative = scores.negative; size = scores.size } };
+
+    ghost invariant = { λ scores. AreSorted (record { intensity = scores.intensity.items; error = scores.error.items; named = scores.named.items; implausible = scores.implausible.items; radical = scores.radical; negative = scores.negative; size = scores.size }) };
+}
+
+impl Scores {
+    /// The tables that count where a profile gives no others.
+    pub fn default_tables(alloc: Global) -> Result<Scores, AllocError>
+        ensures { IfOk result (λ scores. scores ≡ default_scores) }
+    {
+        Ok(Scores::new(
+            Vec::from_slice(alloc, &DEFAULT_INTENSITY)?,
+            Vec::from_slice(alloc, &DEFAULT_ERROR)?,
+            losses_of(alloc, &DEFAULT_NAMED)?,
+            losses_of(alloc, &DEFAULT_IMPLAUSIBLE)?,
+            DEFAULT_RADICAL,
+            DEFAULT_NEGATIVE,
+            DEFAULT_SIZE,
+        ))
+    }
+
+    /// The tables of these pairs of a bound and a score, and of these pairs of a loss and its score. Bounds are thousandths,
+    /// the size is in units of 10^-7 Da.
+    pub fn new(
+        intensity: Vec<(u16, i16)>,
+        error: Vec<(u16, i16)>,
+        mut named: Vec<(Formula, i16)>,
+        mut implausible: Vec<(Formula, i16)>,
+        radical: i16,
+        negative: i16,
+        size: u32,
+    ) -> Scores
+        requires { IsScores (record { intensity = intensity.items; error = error.items; named = named.items; implausible = implausible.items; radical = radical; negative = negative; size = size }) }
+        ensures { result ≡ in_formula_order (record { intensity = intensity.items; error = error.items; named = named.items; implausible = implausible.items; radical = radical; negative = negative; size = size }) }
+    {
+        sort_losses(&mut named);
+        sort_losses(&mut implausible);
+        Scores {
+            intensity,
+            error,
+            named,
+            implausible,
+            radical,
+            negative,
+            size,
+        }
+    }
+
+    /// The score of a peak, by the share of its intensity in the greatest one.
+    pub fn peak_score(&self, intensity: u64, greatest: u64) -> i32
+        requires some { 1 ≤ intensity }
+        requires within { intensity ≤ greatest }
+        requires small { greatest ≤ 10 ^ 18 }
+        ensures score { result ≡ peak_score_of self.now intensity greatest }
+        ensures near { IsNearZero 10000 result }
+    {
+        at_least_score(&self.intensity, share(intensity, greatest))
+    }
+
+    /// The score of the error of a mass, by its share in half the width of the window.
+    pub fn error_score(&self, error: u64, half: u64) -> i32
+        requires within { error ≤ half }
+        requires small { half ≤ 2000000 }
+        ensures score { result ≡ error_score_of self.now error half }
+        ensures near { IsNearZero 10000 result }
+    {
+        at_most_score(&self.error, share(error, half))
+    }
+
+    /// The score of a loss: that of its name, or else the sum of what is said of losses without one, less what its mass costs.
+    pub fn loss_score(&self, loss: &Formula) -> i32
+        requires { loss.now ≢ empty_formula }
+        ensures score { result ≡ loss_score_of self.now loss.now }
+        ensures near { IsNearZero 10000 result }
+    {
+        let base = match table_score(&self.named, loss) {
+            Some(score) => score,
+            None => self.unnamed_score(loss),
+        };
+        base - self.size_cost(loss)
+    }
+
+    /// The score of a loss without a name, before its mass counts.
+    fn unnamed_score(&self, loss: &Formula) -> i32
+        ensures score { result ≡ unnamed_score_of self.now loss.now }
+        ensures near { IsNearZero 6000 result }
+    {
+        let bonds = twice_bonds(loss);
+        let mut score = table_score(&self.implausible, loss).unwrap_or(0);
+        if bonds % 2 != 0 {
+            score += i32::from(self.radical);
+        }
+        if bonds < 0 {
+            score += i32::from(self.negative);
+        }
+        score
+    }
+
+    /// What a loss costs for its mass.
+    fn size_cost(&self, loss: &Formula) -> i32
+        ensures cost { result ≡ pos (size_cost_of self.now loss.now) }
+        ensures near { IsNearZero 2000 result }
+    {
+        (loss.mass() / u64::from(self.size)).min(GREATEST_COST) as i32
+    }
+}
+
+/// Twice the ring and double bond equivalent of a formula.
+fn twice_bonds(formula: &Formula) -> i64
+    ensures { result ≡ rdbe2_of formula.now }
+{
+    let mut bonds = 2;
+    for place in 0..ELEMENTS.len() {
+        bonds += i64::from(formula.count(place)) * (i64::from(ELEMENTS[place].2) - 2);
+    }
+    bonds
+}
