@@ -5,7 +5,7 @@ use Rattle.std.specs.Map.{lookup}
 use Rattle.element_table.specs.Formula.{formula_cmp, mass_of}
 use Rattle.element_table.specs.Listed.{has_parity}
 use Rattle.element_table.specs.Rule.{odd, rdbe2_of}
-use Rattle.score_tables.specs.Tables.{ScoresValue, ShareTable, greatest_score}
+use Rattle.score_tables.specs.Tables.{ScoresValue, ShareTable}
 
 -- the share of a part in a whole, in whole thousandths; nothing has a share in nothing
 abbrev pub share_of : ℕ → ℕ → ℕ
@@ -30,9 +30,13 @@ unnamed_score_of scores loss =
     +ℤ (if has_parity odd (rdbe2_of loss) then scores.radical else pos 0)
     +ℤ (if int_lt (rdbe2_of loss) (pos 0) then scores.negative else pos 0)
 
+-- no loss costs more for its mass
+abbrev pub greatest_cost : ℕ
+greatest_cost = 2000
+
 -- what a loss costs for its mass
 abbrev pub size_cost_of : ScoresValue → List ℕ → ℕ
-size_cost_of scores loss = min greatest_score (mass_of loss / scores.size)
+size_cost_of scores loss = min greatest_cost (mass_of loss / scores.size)
 
 -- The score of a loss: the score of its name, or what it has without a name, less what its mass costs.
 abbrev pub loss_score_of : ScoresValue → List ℕ → ℤ

@@ -1,9 +1,11 @@
 -- The tables that scores are read from.
-use Rattle.std.specs.Prelude.{◌≤◌, ℕ, ℤ, pos, neg_ℤ, int_le, int_lt, nat_le, Bool, true, false, not, ◌&&◌, List, [], ◌∷◌, length, map, IsTrue, bytes_eq}
-use Rattle.std.specs.FinMap.{is_sorted, put}
-use Rattle.std.specs.List.{list_all, list_any}
+use Rattle.std.specs.Prelude.{◌≤◌, ◌≢◌, ℕ, ℤ, pos, int_lt, Bool, false, ◌&&◌, List, [], ◌∷◌, length, map, All, AllPairs, IsTrue}
+use Rattle.std.specs.FinMap.{put}
+use Rattle.std.specs.List.Sorted.{IsStrictlySortedBy}
+use Rattle.std.specs.Map.{keys_of}
 use Rattle.std.specs.Ordering.{int_eq}
-use Rattle.element_table.specs.Formula.{empty_formula, formula_cmp}
+use Rattle.element_table.specs.Formula.{IsFormula, empty_formula, formula_cmp}
+use Rattle.element_table.specs.Rule.{IsNearZero}
 
 -- A score for each share up to or from a bound, in thousandths.
 abbrev pub ShareTable : Type 0
@@ -23,14 +25,14 @@ pub record ScoresValue : Type 0 where
   pub named : LossTable
   -- what is added for losses that hardly occur
   pub implausible : LossTable
-  -- what is added for a loss with an odd number of unpaired electrons
+  -- what is added for a radical: a loss of which twice the number of rings and double bonds is odd
   pub radical : ℤ
-  -- what is added for a loss that has less than no ring and no double bond
+  -- what is added for a loss of which that number is below 0
   pub negative : ℤ
   -- the mass for which a loss costs one, in units of 10^-7 Da
   pub size : ℕ
 
--- the greatest score, and the least below 0
+-- no score is further from 0
 abbrev pub greatest_score : ℕ
 greatest_score = 2000
 
@@ -53,39 +55,38 @@ least_size = 10000000
 abbrev pub greatest_size : ℕ
 greatest_size = 1000000000
 
-abbrev pub is_score : ℤ → Bool
-is_score score = int_le (neg_ℤ (pos greatest_score)) score && int_le score (pos greatest_score)
+-- one number at least, each of which may come before the next, and the last of which is given
+abbrev pub are_ordered : (ℤ → ℤ → Bool) → ℤ → List ℤ → Bool
+are_ordered comes last [] = false
+are_ordered comes last (only ∷ []) = int_eq only last
+are_ordered comes last (first ∷ next ∷ rest) = comes first next && are_ordered comes last (next ∷ rest)
 
--- one number at least, each below the one before it, and the last of them 0
+-- each number is below the one before it, and the last is 0
 abbrev pub falls_to_nought : List ℤ → Bool
-falls_to_nought [] = false
-falls_to_nought (last ∷ []) = int_eq last (pos 0)
-falls_to_nought (first ∷ next ∷ rest) = int_lt next first && falls_to_nought (next ∷ rest)
+falls_to_nought = are_ordered (λ first next. int_lt next first) (pos 0)
 
--- one number at least, each above the one before it, and the last of them 1000
+-- each number is above the one before it, and the last is the whole
 abbrev pub rises_to_whole : List ℤ → Bool
-rises_to_whole [] = false
-rises_to_whole (last ∷ []) = int_eq last (pos greatest_share)
-rises_to_whole (first ∷ next ∷ rest) = int_lt first next && rises_to_whole (next ∷ rest)
+rises_to_whole = are_ordered int_lt (pos greatest_share)
 
--- no two of these formulas are the same
-abbrev pub are_distinct : List (List ℕ) → Bool
-are_distinct [] = true
-are_distinct (first ∷ rest) = not (list_any (bytes_eq first) rest) && are_distinct rest
+-- the bounds of a table of shares
+abbrev pub bounds_of : ShareTable → List ℤ
+bounds_of pairs = map (λ pair. pos pair.0) pairs
 
--- what a table of shares is: sixteen pairs at most, in this order, each bound at most 1000, each score near 0
+-- what a table of shares is: sixteen pairs at most, their bounds in this order and in their range, each score near 0
 pub record IsShareTable (are_ordered : List ℤ → Bool) (pairs : ShareTable) : Type 0 where
   pub few : length pairs ≤ greatest_pairs
-  pub ordered : IsTrue (are_ordered (map (λ pair. pos pair.0) pairs))
-  pub bounds : IsTrue (list_all (λ pair. nat_le pair.0 greatest_share) pairs)
-  pub scores : IsTrue (list_all (λ pair. is_score pair.1) pairs)
+  pub ordered : IsTrue (are_ordered (bounds_of pairs))
+  pub bounds : All (λ pair. pair.0 ≤ greatest_share) pairs
+  pub scores : All (λ pair. IsNearZero greatest_score pair.1) pairs
 
 -- what a table of losses is: at most so many formulas, none of them empty, no two the same, each score near 0
 pub record IsLossTable (losses : LossTable) : Type 0 where
   pub few : length losses ≤ greatest_losses
-  pub some_atom : IsTrue (list_all (λ entry. not (bytes_eq entry.0 empty_formula)) losses)
-  pub distinct : IsTrue (are_distinct (map (λ entry. entry.0) losses))
-  pub scores : IsTrue (list_all (λ entry. is_score entry.1) losses)
+  pub formulas : All (λ entry. IsFormula entry.0) losses
+  pub some_atom : All (λ entry. entry.0 ≢ empty_formula) losses
+  pub distinct : AllPairs (λ first later. first.0 ≢ later.0) losses
+  pub scores : All (λ entry. IsNearZero greatest_score entry.1) losses
 
 -- what the tables of every run are
 pub record IsScores (scores : ScoresValue) : Type 0 where
@@ -93,16 +94,20 @@ pub record IsScores (scores : ScoresValue) : Type 0 where
   pub error : IsShareTable rises_to_whole scores.error
   pub named : IsLossTable scores.named
   pub implausible : IsLossTable scores.implausible
-  pub radical : IsTrue (is_score scores.radical)
-  pub negative : IsTrue (is_score scores.negative)
+  pub radical : IsNearZero greatest_score scores.radical
+  pub negative : IsNearZero greatest_score scores.negative
   pub not_small : least_size ≤ scores.size
   pub not_large : scores.size ≤ greatest_size
 
--- the tables that a program holds are right, and their losses stand in formula order
+-- the losses of a table rise in formula order
+abbrev pub LossesRise : LossTable → Type 0
+LossesRise losses = IsStrictlySortedBy formula_cmp (keys_of losses)
+
+-- what the tables are that a program holds
 pub record AreSorted (scores : ScoresValue) : Type 0 where
   pub right : IsScores scores
-  pub named : IsTrue (is_sorted formula_cmp scores.named)
-  pub implausible : IsTrue (is_sorted formula_cmp scores.implausible)
+  pub named : LossesRise scores.named
+  pub implausible : LossesRise scores.implausible
 
 -- the losses of a table, in formula order
 abbrev pub sorted_losses : LossTable → LossTable

@@ -8,8 +8,13 @@ use std::alloc::{AllocError, Global};
 pub(crate) type Loss = ([u8; 8], i16);
 
 /// The scores of peaks: from so many thousandths of the greatest intensity on.
-pub(crate) const DEFAULT_INTENSITY: [(u16, i16); 5] =
-    [(500, 30), (200, 24), (50, 16), (10, 8), (0, 2)];
+pub(crate) const DEFAULT_INTENSITY: [(u16, i16); 5] = [
+    (500, 30),
+    (200, 24),
+    (50, 16),
+    (10, 8),
+    (0, 2),
+];
 
 /// The scores of errors: up to so many thousandths of half the width of a window.
 pub(crate) const DEFAULT_ERROR: [(u16, i16); 4] = [(200, 10), (500, 6), (800, 2), (1_000, -4)];
@@ -57,10 +62,10 @@ pub(crate) const DEFAULT_IMPLAUSIBLE: [Loss; 6] = [
     ([0, 0, 2, 0, 0, 0, 0, 0], -10),
 ];
 
-/// What is added for a loss with an odd number of unpaired electrons.
+/// What is added for a radical: a loss of which twice the number of rings and double bonds is odd.
 pub(crate) const DEFAULT_RADICAL: i16 = -12;
 
-/// What is added for a loss that has less than no ring and no double bond.
+/// What is added for a loss of which that number is below 0.
 pub(crate) const DEFAULT_NEGATIVE: i16 = -40;
 
 /// The mass for which a loss costs one, in units of 10^-7 Da.

@@ -6,7 +6,10 @@ mod laws;
 mod scores;
 mod table;
 
-pub use laws::{default_losses_are_named, losses_score_as_given, some_losses_score_so};
+pub use laws::{
+    default_losses_are_named, default_tables_are_right, losses_score_as_given,
+    some_losses_score_so, sorted_tables_are_right,
+};
 pub use scores::Scores;
 
 #[cfg(test)]

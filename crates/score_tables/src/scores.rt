@@ -1,18 +1,19 @@
 //! The tables of a run, and the scores that are read from them.
-ghost use Rattle.std.specs.Prelude.{◌≡◌, ◌≢◌, ◌≤◌, ◌*◌, ◌^◌, ◌+◌, IfOk, IsTrue, min, pos, unwrap_or};
-ghost use Rattle.std.specs.FinMap.{find, is_sorted};
+ghost use Rattle.std.specs.Prelude.{◌≡◌, ◌≢◌, ◌≤◌, ◌*◌, ◌^◌, IfOk, if◌then◌else◌, int_lt, pos, unwrap_or};
+ghost use Rattle.std.specs.FinMap.{find};
 ghost use Rattle.element_table.specs.Formula.{empty_formula, formula_cmp};
-ghost use Rattle.element_table.specs.Rule.{IsNearZero, rdbe2_of};
+ghost use Rattle.element_table.specs.Listed.{has_parity};
+ghost use Rattle.element_table.specs.Rule.{IsNearZero, odd};
 ghost use Rattle.score_tables.specs.Default.{default_scores};
-ghost use Rattle.score_tables.specs.Scores.{error_score_of, loss_score_of, peak_score_of, size_cost_of, unnamed_score_of};
-ghost use Rattle.score_tables.specs.Tables.{IsScores, in_formula_order};
+ghost use Rattle.score_tables.specs.Scores.{error_score_of, loss_score_of, peak_score_of, size_cost_of, unnamed_score_of, greatest_cost};
+ghost use Rattle.score_tables.specs.Tables.{IsScores, greatest_score, in_formula_order};
 
 use crate::default::{
     DEFAULT_ERROR, DEFAULT_IMPLAUSIBLE, DEFAULT_INTENSITY, DEFAULT_NAMED, DEFAULT_NEGATIVE,
     DEFAULT_RADICAL, DEFAULT_SIZE, losses_of,
 };
 use crate::table::{at_least_score, at_most_score, share, sort_losses, table_score};
-use element_table::{ELEMENTS, Formula};
+use element_table::Formula;
 use std::alloc::{AllocError, Global};
 use std::marker::Model;
 
@@ -122,35 +123,49 @@ impl Scores {
     /// The score of a loss without a name, before its mass counts.
     fn unnamed_score(&self, loss: &Formula) -> i32
         ensures score { result ≡ unnamed_score_of self.now loss.now }
-        ensures near { IsNearZero 6000 result }
+        ensures near { IsNearZero (3 * greatest_score) result }
     {
-        let bonds = twice_bonds(loss);
-        let mut score = table_score(&self.implausible, loss).unwrap_or(0);
+        let bonds = loss.rdbe2();
+        self.implausible_score(loss) + self.radical_score(bonds) + self.negative_score(bonds)
+    }
+
+    /// What is added for a loss that hardly occurs.
+    fn implausible_score(&self, loss: &Formula) -> i32
+        ensures score { result ≡ unwrap_or (find formula_cmp loss.now self.now.implausible) (pos 0) }
+        ensures near { IsNearZero greatest_score result }
+    {
+        table_score(&self.implausible, loss).unwrap_or(0)
+    }
+
+    /// What is added for a loss with so many rings and double bonds, twice, where it is a radical.
+    fn radical_score(&self, bonds: i32) -> i32
+        ensures score { result ≡ (if has_parity odd bonds then self.now.radical else pos 0) }
+        ensures near { IsNearZero greatest_score result }
+    {
         if bonds % 2 != 0 {
-            score += i32::from(self.radical);
+            i32::from(self.radical)
+        } else {
+            0
         }
+    }
+
+    /// What is added for a loss with so many rings and double bonds, twice, where that is below 0.
+    fn negative_score(&self, bonds: i32) -> i32
+        ensures score { result ≡ (if int_lt bonds (pos 0) then self.now.negative else pos 0) }
+        ensures near { IsNearZero greatest_score result }
+    {
         if bonds < 0 {
-            score += i32::from(self.negative);
+            i32::from(self.negative)
+        } else {
+            0
         }
-        score
     }
 
     /// What a loss costs for its mass.
     fn size_cost(&self, loss: &Formula) -> i32
         ensures cost { result ≡ pos (size_cost_of self.now loss.now) }
-        ensures near { IsNearZero 2000 result }
+        ensures near { IsNearZero greatest_cost result }
     {
         (loss.mass() / u64::from(self.size)).min(GREATEST_COST) as i32
     }
-}
-
-/// Twice the ring and double bond equivalent of a formula.
-fn twice_bonds(formula: &Formula) -> i64
-    ensures { result ≡ rdbe2_of formula.now }
-{
-    let mut bonds = 2;
-    for place in 0..ELEMENTS.len() {
-        bonds += i64::from(formula.count(place)) * (i64::from(ELEMENTS[place].2) - 2);
-    }
-    bonds
 }

@@ -1,13 +1,13 @@
 //! Worked examples of scores.
 use crate::{
-    Scores, default_losses_are_named, losses_score_as_given, some_losses_score_so,
+    Scores, default_losses_are_named, default_tables_are_right, losses_score_as_given,
+    some_losses_score_so, sorted_tables_are_right,
 };
 use element_table::{Formula, read_formula};
-use std::alloc::{AllocError, Global};
 use std::test::Fail;
 
 /// The default scores of named losses.
-const NAMED: [(&str, i16); 22] = [
+const NAMED: [(&str, i32); 22] = [
     ("H2O", 12),
     ("CO", 10),
     ("CO2", 10),
@@ -32,6 +32,16 @@ const NAMED: [(&str, i16); 22] = [
     ("CH3", 0),
 ];
 
+/// The default scores of losses that hardly occur, and what is added to them for radicals.
+const IMPLAUSIBLE: [(&str, i32); 6] = [
+    ("C", -30),
+    ("C2", -30),
+    ("N", -30 - 12),
+    ("O", -20),
+    ("O2", -20),
+    ("N2", -10),
+];
+
 /// The formula of a text.
 fn formula(text: &str) -> Result<Formula, Fail> {
     match read_formula(text.as_bytes()) {
@@ -43,31 +53,84 @@ fn formula(text: &str) -> Result<Formula, Fail> {
 #[test]
 fn scores_losses(rt: HostRuntime) -> Result<(), Fail> {
     let scores = Scores::default_tables(rt.alloc())?;
-    let cases: [(&str, i32); 15] = [
+    let cases: [(&str, i32); 9] = [
         ("H2O", 12),
         ("CO", 9),
         ("HN4", -14),
         ("C", -30),
         ("H3", -52),
-        // two tables, and neither
-        ("CH3", 0),
-        ("C2", -31),
-        ("N", -42),
-        ("O", -20),
-        ("O2", -21),
-        ("N2", -11),
+        // in no table
         ("H", -12),
         ("CH2", 0),
         ("C2H6", -1),
-        ("C1999Br1999", -2_012),
+        // the mass costs 2,000 at most
+        ("Br1999I1999", -2_040),
     ];
     for (text, score) in cases {
         assert_eq!(rt; scores.loss_score(&formula(text)?), score, "at {text}");
     }
-    for (text, score) in NAMED {
+    for (text, base) in NAMED.iter().chain(IMPLAUSIBLE.iter()) {
         let loss = formula(text)?;
         let cost = (loss.mass() / 200_000_000) as i32;
-        assert_eq!(rt; scores.loss_score(&loss), i32::from(score) - cost, "at {text}");
+        assert_eq!(rt; scores.loss_score(&loss), *base - cost, "at {text}");
     }
     Ok(())
+}
+
+#[test]
+fn scores_peaks(rt: HostRuntime) -> Result<(), Fail> {
+    let scores = Scores::default_tables(rt.alloc())?;
+    let cases: [(u64, u64, i32); 12] = [
+        (1, 1, 30),
+        (500, 1_000, 30),
+        (499, 1_000, 24),
+        (200, 1_000, 24),
+        (199, 1_000, 16),
+        (50, 1_000, 16),
+        (49, 1_000, 8),
+        (10, 1_000, 8),
+        (9, 1_000, 2),
+        (1, 1_000_000_000_000_000_000, 2),
+        (499_999_999_999_999_999, 1_000_000_000_000_000_000, 24),
+        (500_000_000_000_000_000, 1_000_000_000_000_000_000, 30),
+    ];
+    for (intensity, greatest, score) in cases {
+        assert_eq!(rt;
+            scores.peak_score(intensity, greatest),
+            score,
+            "at {intensity}"
+        );
+    }
+    Ok(())
+}
+
+#[test]
+fn scores_errors(rt: HostRuntime) -> Result<(), Fail> {
+    let scores = Scores::default_tables(rt.alloc())?;
+    let cases: [(u64, u64, i32); 10] = [
+        (0, 0, 10),
+        (0, 2_000_000, 10),
+        (200, 1_000, 10),
+        (201, 1_000, 6),
+        (500, 1_000, 6),
+        (501, 1_000, 2),
+        (800, 1_000, 2),
+        (801, 1_000, -4),
+        (1_000, 1_000, -4),
+        // whole thousandths: 200.9 are 200
+        (2_009, 10_000, 10),
+    ];
+    for (error, half, score) in cases {
+        assert_eq!(rt; scores.error_score(error, half), score, "at {error}");
+    }
+    Ok(())
+}
+
+#[test]
+fn states_laws() {
+    losses_score_as_given();
+    sorted_tables_are_right();
+    default_tables_are_right();
+    default_losses_are_named();
+    some_losses_score_so();
 }

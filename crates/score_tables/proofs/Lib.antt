@@ -1,0 +1,3 @@
+pub mod LossTables
+pub mod NearScores
+pub mod Defaults
