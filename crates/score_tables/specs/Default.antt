@@ -42,9 +42,9 @@ default_named =
 -- how the named losses are spelled
 abbrev pub default_named_texts : List (List ℕ)
 default_named_texts =
-    codes "H2O" ∷ codes "CO" ∷ codes "CO2" ∷ codes "H3N" ∷ codes "CHN" ∷ codes "CH2O" ∷ codes "CH4O" ∷ codes "CH2O2"
-    ∷ codes "C2H2" ∷ codes "C2H4" ∷ codes "C2H2O" ∷ codes "C2H4O2" ∷ codes "C3H6" ∷ codes "C4H8" ∷ codes "HCl" ∷ codes "HF"
-    ∷ codes "H2S" ∷ codes "O2S" ∷ codes "O3S" ∷ codes "HO3P" ∷ codes "H3O4P" ∷ codes "CH3" ∷ []
+    codes "H2O" ∷ codes "CO" ∷ codes "CO2" ∷ codes "H3N" ∷ codes "CHN" ∷ codes "CH2O" ∷ codes "CH4O"
+    ∷ codes "CH2O2" ∷ codes "C2H2" ∷ codes "C2H4" ∷ codes "C2H2O" ∷ codes "C2H4O2" ∷ codes "C3H6" ∷ codes "C4H8"
+    ∷ codes "HCl" ∷ codes "HF" ∷ codes "H2S" ∷ codes "O2S" ∷ codes "O3S" ∷ codes "HO3P" ∷ codes "H3O4P" ∷ codes "CH3" ∷ []
 
 -- the losses that hardly occur
 abbrev pub default_implausible : LossTable
@@ -78,7 +78,9 @@ default_scores = in_formula_order default_tables
 
 -- worked examples: H2O, CO, HN4, C and H3
 abbrev pub some_losses : List (List ℕ)
-some_losses = atoms 2 0 0 1 0 0 0 0 ∷ atoms 0 1 0 1 0 0 0 0 ∷ atoms 1 0 4 0 0 0 0 0 ∷ atoms 0 1 0 0 0 0 0 0 ∷ atoms 3 0 0 0 0 0 0 0 ∷ []
+some_losses =
+    atoms 2 0 0 1 0 0 0 0 ∷ atoms 0 1 0 1 0 0 0 0 ∷ atoms 1 0 4 0 0 0 0 0
+    ∷ atoms 0 1 0 0 0 0 0 0 ∷ atoms 3 0 0 0 0 0 0 0 ∷ []
 
 -- their scores under the default tables
 abbrev pub some_loss_scores : List ℤ

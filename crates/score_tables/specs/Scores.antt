@@ -17,13 +17,15 @@ first_score passes pairs = unwrap_or (lookup passes pairs) (pos 0)
 
 -- The score of a peak, by the share of its intensity in the greatest one.
 abbrev pub peak_score_of : ScoresValue → ℕ → ℕ → ℤ
-peak_score_of scores intensity greatest = first_score (λ at_least. nat_le at_least (share_of intensity greatest)) scores.intensity
+peak_score_of scores intensity greatest =
+    first_score (λ at_least. nat_le at_least (share_of intensity greatest)) scores.intensity
 
 -- The score of an error of a mass, by its share in half the window's width.
 abbrev pub error_score_of : ScoresValue → ℕ → ℕ → ℤ
 error_score_of scores error half = first_score (λ at_most. nat_le (share_of error half) at_most) scores.error
 
--- what is added for a loss that is not named: for a loss that hardly occurs, for a radical, and for a negative number of rings and double bonds
+-- what is added for a loss that is not named: where it hardly occurs, where it is a radical, and where its rings and double
+-- bonds are below 0
 abbrev pub unnamed_score_of : ScoresValue → List ℕ → ℤ
 unnamed_score_of scores loss =
     unwrap_or (find formula_cmp loss scores.implausible) (pos 0)
@@ -40,4 +42,5 @@ size_cost_of scores loss = min greatest_cost (mass_of loss / scores.size)
 
 -- The score of a loss: the score of its name, or what it has without a name, less what its mass costs.
 abbrev pub loss_score_of : ScoresValue → List ℕ → ℤ
-loss_score_of scores loss = unwrap_or (find formula_cmp loss scores.named) (unnamed_score_of scores loss) -ℤ pos (size_cost_of scores loss)
+loss_score_of scores loss =
+    unwrap_or (find formula_cmp loss scores.named) (unnamed_score_of scores loss) -ℤ pos (size_cost_of scores loss)

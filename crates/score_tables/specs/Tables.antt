@@ -116,4 +116,5 @@ sorted_losses (entry ∷ losses) = put formula_cmp entry.0 entry.1 (sorted_losse
 
 -- The same tables, the losses in formula order. No score tells in which order they were given.
 abbrev pub in_formula_order : ScoresValue → ScoresValue
-in_formula_order scores = record scores { named = sorted_losses scores.named; implausible = sorted_losses scores.implausible }
+in_formula_order scores =
+    record scores { named = sorted_losses scores.named; implausible = sorted_losses scores.implausible }

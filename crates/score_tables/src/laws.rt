@@ -7,7 +7,8 @@ ghost use Rattle.element_table.specs.FormulaText.{formula_text};
 
 /// In which order the losses of a table are given changes no score.
 pub fn losses_score_as_given()
-    ensures { (scores : ScoresValue) (loss : List ℕ) → loss_score_of (in_formula_order scores) loss ≡ loss_score_of scores loss }
+    ensures { (scores : ScoresValue) (loss : List ℕ)
+        → loss_score_of (in_formula_order scores) loss ≡ loss_score_of scores loss }
 {}
 
 /// Tables stay right where their losses are put in formula order.

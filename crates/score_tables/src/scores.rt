@@ -1,7 +1,7 @@
 //! The tables of a run, and the scores that are read from them.
-ghost use Rattle.std.specs.Prelude.{◌≡◌, ◌≢◌, ◌≤◌, ◌*◌, ◌^◌, IfOk, if◌then◌else◌, int_lt, pos, unwrap_or};
+ghost use Rattle.std.specs.Prelude.{◌≡◌, ◌≤◌, ◌*◌, ◌^◌, IfOk, if◌then◌else◌, int_lt, pos, unwrap_or};
 ghost use Rattle.std.specs.FinMap.{find};
-ghost use Rattle.element_table.specs.Formula.{empty_formula, formula_cmp};
+ghost use Rattle.element_table.specs.Formula.{formula_cmp};
 ghost use Rattle.element_table.specs.Listed.{has_parity};
 ghost use Rattle.element_table.specs.Rule.{IsNearZero, odd};
 ghost use Rattle.score_tables.specs.Default.{default_scores};
@@ -38,9 +38,25 @@ impl Model for Scores {
 
     ghost Value = { ScoresValue };
 
-    ghost view = { λ scores. record { intensity = scores.intensity.items; error = scores.error.items; named = scores.named.items; implausible = scores.implausible.items; radical = scores.radical; negative = scores.negative; size = scores.size } };
+    ghost view = { λ scores. record {
+      intensity = scores.intensity.items;
+      error = scores.error.items;
+      named = scores.named.items;
+      implausible = scores.implausible.items;
+      radical = scores.radical;
+      negative = scores.negative;
+      size = scores.size;
+    } };
 
-    ghost invariant = { λ scores. AreSorted (record { intensity = scores.intensity.items; error = scores.error.items; named = scores.named.items; implausible = scores.implausible.items; radical = scores.radical; negative = scores.negative; size = scores.size }) };
+    ghost invariant = { λ scores. AreSorted (record {
+      intensity = scores.intensity.items;
+      error = scores.error.items;
+      named = scores.named.items;
+      implausible = scores.implausible.items;
+      radical = scores.radical;
+      negative = scores.negative;
+      size = scores.size;
+    }) };
 }
 
 impl Scores {
@@ -70,8 +86,24 @@ impl Scores {
         negative: i16,
         size: u32,
     ) -> Scores
-        requires { IsScores (record { intensity = intensity.items; error = error.items; named = named.items; implausible = implausible.items; radical = radical; negative = negative; size = size }) }
-        ensures { result ≡ in_formula_order (record { intensity = intensity.items; error = error.items; named = named.items; implausible = implausible.items; radical = radical; negative = negative; size = size }) }
+        requires { IsScores (record {
+          intensity = intensity.items;
+          error = error.items;
+          named = named.items;
+          implausible = implausible.items;
+          radical = radical;
+          negative = negative;
+          size = size;
+        }) }
+        ensures { result ≡ in_formula_order (record {
+          intensity = intensity.items;
+          error = error.items;
+          named = named.items;
+          implausible = implausible.items;
+          radical = radical;
+          negative = negative;
+          size = size;
+        }) }
     {
         sort_losses(&mut named);
         sort_losses(&mut implausible);
@@ -107,9 +139,9 @@ impl Scores {
         at_most_score(&self.error, share(error, half))
     }
 
-    /// The score of a loss: that of its name, or else the sum of what is said of losses without one, less what its mass costs.
+    /// The score of a loss: that of its name, or else the sum of what is said of losses without one, less what its mass
+    /// costs.
     pub fn loss_score(&self, loss: &Formula) -> i32
-        requires { loss.now ≢ empty_formula }
         ensures score { result ≡ loss_score_of self.now loss.now }
         ensures near { IsNearZero 10000 result }
     {
