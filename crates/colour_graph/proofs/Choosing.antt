@@ -1,6 +1,6 @@
 -- The set that is left where a colour keeps only some of its edges.
-use Rattle.std.proofs.Common.{◌≡◌, ◌<◌, ◌≤◌, ◌∙◌, ◌⊎◌, inl, inr, ℕ, Bool, true, false, not, ◌&&◌, ◌||◌, eqb, leb, ltb, List, length, ap, sym, refl, arith}
-use Rattle.std.proofs.lemmas.Bool.{cases_eq, cases_Bool, and_from, and_parts, eq-eqb, eqb-true, false_from_ne_true, leb-true, le-leb, lt-ltb, ltb-true, ne_eqb}
+use Rattle.std.proofs.Common.{◌≡◌, ◌<◌, ◌∙◌, ◌⊎◌, inl, inr, ℕ, Bool, true, false, not, ◌&&◌, ◌||◌, eqb, leb, ltb, List, length, ap, sym, refl, arith}
+use Rattle.std.proofs.lemmas.Bool.{cases_eq, and_from, and_parts, eq-eqb, false_from_ne_true, leb-true, le-leb, lt-ltb, ltb-true, ne_eqb}
 use Rattle.colour_graph.specs.EdgeSet.{AreInto, is_allowed, is_named, keeping, only}
 use Rattle.colour_graph.specs.Graph.{Graph, head_colour}
 use Rattle.colour_graph.specs.inside.Sets.{AreBack}

@@ -1,17 +1,15 @@
 -- Worked examples, computed: a graph with a trap, where the heaviest edge from the root is not in the best tree, and the root alone.
-use Rattle.std.proofs.Common.{◌≡◌, ◌≢◌, ◌+◌, ◌<◌, ◌≤◌, ◌⊎◌, inl, inr, ℕ, zero, suc, ℤ, pos, negsuc, ◌+ℤ◌, ◌≤ℤ◌, Bool, true, false, List, [], ◌∷◌, length, refl, arith, sym, ◌∙◌, subst}
-use Rattle.std.proofs.lemmas.Bool.{cases_lt}
+use Rattle.std.proofs.Common.{◌≡◌, ◌≢◌, ◌+◌, ◌<◌, ◌≤◌, ◌⊎◌, inl, inr, ℕ, zero, suc, ℤ, pos, negsuc, ◌+ℤ◌, ◌≤ℤ◌, true, false, List, [], ◌∷◌, refl, arith, sym, ◌∙◌, subst}
 use Rattle.std.proofs.lemmas.Int.{ints}
-use Rattle.std.specs.Prelude.{IsTrue}
 use Rattle.std.specs.List.{All, AllPairs, Contains}
 use Rattle.colour_graph.specs.declared.edge.Edge.{Edge}
-use Rattle.colour_graph.specs.Graph.{Graph, HasColours, IsEdge, IsGraph, IsScore, StandsBefore, colour_count, colour_of, edge_at, head_colour}
+use Rattle.colour_graph.specs.Graph.{Graph, HasColours, IsEdge, IsScore, colour_count, colour_of, edge_at, head_colour}
 use Rattle.colour_graph.specs.Building.{root_alone, with_edge, with_vertex}
-use Rattle.colour_graph.specs.Colourful.{IsColourful, IsReached, at_head, at_root, heads_of, score_of, total}
-use Rattle.colour_graph.specs.EdgeSet.{all_edges, colours_of, edges_into, is_allowed, leaving, only}
+use Rattle.colour_graph.specs.Colourful.{IsColourful, IsReached, at_head, at_root, score_of}
+use Rattle.colour_graph.specs.EdgeSet.{all_edges, colours_of, edges_into, leaving, only}
 use Rattle.colour_graph.specs.Bounded.{IsBest, IsBounded}
 use Rattle.colour_graph.specs.Maximal.{IsMaximal}
-use Rattle.colour_graph.specs.Cap.{cap_of, greatest}
+use Rattle.colour_graph.specs.Cap.{cap_of}
 
 abbrev joining : ℕ → ℕ → ℤ → Edge
 joining tail head weight = record { tail = tail; head = head; weight = weight }

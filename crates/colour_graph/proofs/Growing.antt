@@ -1,10 +1,9 @@
 -- One more vertex or edge leaves a graph.
-use Rattle.std.proofs.Common.{◌≡◌, ◌+◌, ◌-◌, ◌<◌, ◌≤◌, ◌∙◌, ◌⊎◌, inl, inr, ◌++◌, [], ◌∷◌, ℕ, pos, List, length, get_or, ap, sym, refl, arith}
+use Rattle.std.proofs.Common.{◌≡◌, ◌+◌, ◌-◌, ◌<◌, ◌≤◌, ◌∙◌, ◌⊎◌, inl, inr, ◌++◌, [], ◌∷◌, ℕ, pos, length, get_or, ap, arith}
 use Rattle.std.proofs.lemmas.Bool.{cases_lt}
 use Rattle.std.proofs.lemmas.List.{get_or_append_left, get_or_default, get_or_push, length_push}
 use Rattle.std.proofs.lemmas.List.Elements.{All-push, All-weaker}
 use Rattle.std.proofs.lemmas.List.Quantifiers.{all_pairs_push}
-use Rattle.std.specs.List.{All, AllPairs}
 use Rattle.colour_graph.specs.declared.edge.Edge.{Edge}
 use Rattle.colour_graph.specs.Building.{ComesNext, with_edge, with_vertex}
 use Rattle.colour_graph.specs.Graph.{Graph, HasColours, IsEdge, IsGraph, StandsBefore, colour_count, colour_of, edge_at, greatest_vertices}

@@ -1,11 +1,9 @@
 -- Edges that stand in order are few, and the colours of their heads never fall.
-use Rattle.std.proofs.Common.{◌≡◌, ◌+◌, ◌*◌, ◌-◌, ◌<◌, ◌≤◌, ◌∙◌, ◌⊎◌, inl, inr, ℕ, zero, suc, pos, List, length, get_or, ap, sym, refl, arith}
+use Rattle.std.proofs.Common.{◌≡◌, ◌+◌, ◌*◌, ◌-◌, ◌<◌, ◌≤◌, ◌⊎◌, inl, inr, ℕ, zero, suc, pos, length, get_or, arith}
 use Rattle.std.proofs.lemmas.Bool.{cases_eq, cases_lt}
-use Rattle.std.proofs.lemmas.List.{get_or_default}
-use Rattle.std.specs.List.{All, AllPairs}
 use Rattle.colour_graph.specs.declared.edge.Edge.{Edge}
-use Rattle.colour_graph.specs.Graph.{Graph, HasColours, IsEdge, IsGraph, StandsBefore, colour_count, colour_of, edge_at, head_colour}
-use Rattle.colour_graph.specs.inside.Index.{CanIndex, EndsAt}
+use Rattle.colour_graph.specs.Graph.{Graph, HasColours, IsGraph, StandsBefore, colour_count, colour_of, edge_at, head_colour}
+use Rattle.colour_graph.specs.inside.Index.{CanIndex}
 
 -- a number for a head and a tail, which rises with the order of edges
 abbrev rank_of : Edge → ℕ

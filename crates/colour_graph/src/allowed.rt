@@ -32,7 +32,8 @@ impl Model for Allowed {
 impl Allowed {
     /// The set of all edges of a graph.
     pub fn all(alloc: Global, graph: &ColourGraph) -> Result<Allowed, AllocError>
-        ensures { IfOk result (λ set. set ≡ all_edges graph.now) }
+        ensures all { IfOk result (λ set. set ≡ all_edges graph.now) }
+        ensures set { IfOk result (λ set. IsSetOf graph.now set) }
     {
         let count = graph.edge_count();
         let words = vec![in alloc; u64::MAX; count as usize / 64 + 1]?;
@@ -75,7 +76,8 @@ impl Allowed {
         requires not_root { 0 < colour }
         requires counted { colour ≤ colour_count graph.now }
         requires in_range { All (λ edge. edge < length self.now) part.now }
-        ensures { IfOk result (λ set. set ≡ only graph.now self.now colour part.now) }
+        ensures only { IfOk result (λ set. set ≡ only graph.now self.now colour part.now) }
+        ensures set { IfOk result (λ set. IsSetOf graph.now set) }
     {
         let (first, past) = graph.edges_into(colour);
         let mut set = self.copy()?;
@@ -87,7 +89,8 @@ impl Allowed {
     /// The set without some edges.
     pub fn without(&self, part: &[EdgeId]) -> Result<Allowed, AllocError>
         requires { All (λ edge. edge < length self.now) part.now }
-        ensures { IfOk result (λ set. set ≡ leaving self.now part.now) }
+        ensures left { IfOk result (λ set. set ≡ leaving self.now part.now) }
+        ensures same_length { IfOk result (λ set. length set ≡ length self.now) }
     {
         let mut set = self.copy()?;
         for edge in part {

@@ -1,5 +1,5 @@
 -- The index of a graph: for each colour, how many edges go to it or to smaller colours.
-use Rattle.std.specs.Prelude.{◌≡◌, ◌≤◌, ◌<◌, ◌↔◌, ℕ, pos, List, length, slice_index, slice_index_or}
+use Rattle.std.specs.Prelude.{◌≤◌, ◌<◌, ◌↔◌, ℕ, pos, List, length, slice_index, slice_index_or}
 use Rattle.std.specs.List.{All}
 use Rattle.colour_graph.specs.declared.edge.Edge.{Edge}
 

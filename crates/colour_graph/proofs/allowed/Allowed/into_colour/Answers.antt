@@ -1,5 +1,5 @@
 use Rattle.std.proofs.Common.{◌≡◌, ◌+◌, ◌∙◌, ℕ, Bool, true, false, cond, ap, arith, sym}
-use Rattle.colour_graph.proofs.Counting.{count_below, count_below-first, count_below-more, count_below-past, goes_to, goes_to-row}
+use Rattle.colour_graph.proofs.Counting.{count_below, count_below-first, count_below-more, count_below-past, goes_to-row}
 use Rattle.colour_graph.proofs.allowed.Allowed.into_colour.Goals as goal
 use Rattle.colour_graph.proofs.allowed.Allowed.into_colour.Goals.{then-has, else-has}
 

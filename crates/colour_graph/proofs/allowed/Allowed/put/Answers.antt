@@ -1,4 +1,4 @@
-use Rattle.std.proofs.Common.{◌≡◌, ◌∙◌, ◌||◌, ap, arith, eqb, length}
+use Rattle.std.proofs.Common.{◌∙◌, ◌||◌, ap, arith, eqb, length}
 use Rattle.std.proofs.lemmas.List.{with_items_is}
 use Rattle.colour_graph.specs.inside.Bits.{is_marked}
 use Rattle.colour_graph.proofs.Sets.{length-kept, marks_of-mark}

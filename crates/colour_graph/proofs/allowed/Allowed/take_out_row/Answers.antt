@@ -1,4 +1,4 @@
-use Rattle.std.proofs.Common.{◌≡◌, ◌∙◌, ◌&&◌, ap, arith, leb, ltb, not}
+use Rattle.std.proofs.Common.{◌∙◌, ◌&&◌, ap, arith, leb, ltb, not}
 use Rattle.colour_graph.specs.EdgeSet.{is_allowed}
 use Rattle.colour_graph.proofs.Sets.{keeping-same}
 use Rattle.colour_graph.proofs.allowed.Allowed.take_out_row.Goals as goal

@@ -1,7 +1,7 @@
-use Rattle.std.proofs.Common.{◌≡◌, ◌∙◌, ◌||◌, ℕ, ap, arith, eqb, get_or, length, refl, rules, sym}
+use Rattle.std.proofs.Common.{◌≡◌, ◌∙◌, ◌||◌, ap, arith, eqb, get_or, length, refl, rules, sym}
 use Rattle.colour_graph.specs.Graph.{colour_of, edge_at, head_colour}
 use Rattle.colour_graph.specs.inside.Bits.{is_marked}
-use Rattle.colour_graph.proofs.HeadsSoFar.{AreApart-all, AreHeads-all, SeenHeads-more, SeenHeads-none, out_of_range, seen_before}
+use Rattle.colour_graph.proofs.HeadsSoFar.{AreApart-all, AreHeads-all, SeenHeads-more, SeenHeads-none}
 use Rattle.colour_graph.proofs.Order.{colour-le_vertex}
 use Rattle.colour_graph.proofs.graph.ColourGraph.marked_heads.Goals as goal
 

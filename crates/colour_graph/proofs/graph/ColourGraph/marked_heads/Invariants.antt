@@ -1,5 +1,4 @@
 use Rattle.std.proofs.Common.{◌≡◌, length}
-use Rattle.colour_graph.specs.Graph.{IsGraph}
 use Rattle.colour_graph.proofs.HeadsSoFar.{SeenHeads}
 use Rattle.colour_graph.proofs.graph.ColourGraph.marked_heads.Given as goal
 

@@ -1,4 +1,4 @@
-use Rattle.std.proofs.Common.{◌≡◌, ◌∙◌, ◌+ℤ◌, ℤ, ap, arith, sym, take, to_z, w32, w64}
+use Rattle.std.proofs.Common.{◌∙◌, ◌+ℤ◌, ℤ, ap, arith, sym, take, to_z, w32, w64}
 use Rattle.std.proofs.lemmas.Int.{to_z-of_z}
 use Rattle.colour_graph.specs.Colourful.{score_of}
 use Rattle.colour_graph.proofs.Scores.{IsNear-more, SFits-score, added, score_of-more}
