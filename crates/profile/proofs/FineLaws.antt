@@ -110,13 +110,14 @@ fine_table form entries key inner fine keys is =
     table_at_place (form_at form key) (fine.before ++ key) inner keys (rw (table_is value inner holds) at at)
 
 -- the same of an array
-pub fine_array : (form : Form) (entries : Members) (key : List ℕ) (inner : Items) → IsFine form entries → has_items (form_at form key) ≡ true → option_and_then as_array (get_member key entries) ≡ Some inner → AreFine inner
+pub fine_array : (form : Form) (entries : Members) (key : List ℕ) (inner : Items) → IsFine form entries → has_items (form_at form key) ≡ true → option_and_then as_array (get_member key entries) ≡ Some inner
+    → (excess_of (form_at form key) (array inner) ≡ None) × AreFine inner
 fine_array form entries key inner fine items is =
     let (value, found, holds) = looked_up as_array (get_member key entries) inner is in
     let at = rw (array_is value inner holds) at (fine_at form fine.before entries key value fine.nothing found) in
     let name : List ℕ = fine.before ++ key in
     let (bad, over, under) = first_fine (record { name = name; form = form_at form key; value = array inner }) (places_under (form_at form key) (point_after name) (array inner)) at in
-    record { before = point_after name; number = 0; nothing = rw items at under }
+    (nothing_told (λ (n : ℤ). OverLimit name n) (excess_of (form_at form key) (array inner)) over, record { before = point_after name; number = 0; nothing = rw items at under })
 
 -- the rules after the first
 pub fine_others : (value : Data) (items : Items) → AreFine (item value items) → AreFine items

@@ -13,34 +13,34 @@ use Rattle.profile.specs.declared.fault.ProfileFault.{ProfileFault}
 use Rattle.profile.specs.declared.fault.ProfileFault.TheVariants.{BadValue}
 use Rattle.profile.specs.Fine.{IsFine}
 use Rattle.profile.specs.Table.{element_numbers}
-use Rattle.profile.specs.Values.{count_of, limits_of}
+use Rattle.profile.specs.Values.{as_count, limits_of}
 use Rattle.profile.proofs.ElementLaws.{length-element_numbers, get_or-element_numbers_past}
 use Rattle.profile.proofs.ElementRange.{element_in_range}
 
 pub length-limits_of : (entries : Members) → length (limits_of entries) ≡ 16
-length-limits_of entries = length-map (element_numbers entries) count_of ∙ length-element_numbers entries
+length-limits_of entries = length-map (element_numbers entries) as_count ∙ length-element_numbers entries
 
-pub get_or-limits_of : (entries : Members) (place : ℕ) → get_or (limits_of entries) place 0 ≡ count_of (get_or (element_numbers entries) place (pos 0))
-get_or-limits_of entries place = get_or-map count_of (element_numbers entries) place (pos 0)
+pub get_or-limits_of : (entries : Members) (place : ℕ) → get_or (limits_of entries) place 0 ≡ as_count (get_or (element_numbers entries) place (pos 0))
+get_or-limits_of entries place = get_or-map as_count (element_numbers entries) place (pos 0)
 
 pub limit_in_range : (entries : Members) (place : ℕ) → IsFine limits entries → (pos 0 ≤ℤ get_or (element_numbers entries) place (pos 0)) × (get_or (element_numbers entries) place (pos 0) ≤ℤ pos 1999)
 limit_in_range entries place fine = element_in_range limits entries (pos 0) (pos 1999) place fine (λ key. refl) (omega arith) (omega arith)
 
 -- an integer that is not negative is its count
-pub pos-count_of : (z : ℤ) → pos 0 ≤ℤ z → pos (count_of z) ≡ z
-pos-count_of (pos n) low = refl
-pos-count_of (negsuc n) low = absurd (omega (arith, ints, low))
+pub pos-as_count : (z : ℤ) → pos 0 ≤ℤ z → pos (as_count z) ≡ z
+pos-as_count (pos n) low = refl
+pos-as_count (negsuc n) low = absurd (omega (arith, ints, low))
 
-pub count_of-le : (z : ℤ) (n : ℕ) → pos 0 ≤ℤ z → z ≤ℤ pos n → count_of z ≤ n
-count_of-le z n low high = omega (arith, ints, pos-count_of z low, high)
+pub as_count-le : (z : ℤ) (n : ℕ) → pos 0 ≤ℤ z → z ≤ℤ pos n → as_count z ≤ n
+as_count-le z n low high = omega (arith, ints, pos-as_count z low, high)
 
 limit_capped : (entries : Members) (place : ℕ) → IsFine limits entries → get_or (limits_of entries) place 0 ≤ 1999
 limit_capped entries place fine =
     let (low, high) = limit_in_range entries place fine in
-    rw (get_or-limits_of entries place) (count_of-le (get_or (element_numbers entries) place (pos 0)) 1999 low high)
+    rw (get_or-limits_of entries place) (as_count-le (get_or (element_numbers entries) place (pos 0)) 1999 low high)
 
 limit_past : (entries : Members) (place : ℕ) → 11 ≤ place → get_or (limits_of entries) place 0 ≡ 0
-limit_past entries place past = get_or-limits_of entries place ∙ ap count_of (get_or-element_numbers_past entries place past)
+limit_past entries place past = get_or-limits_of entries place ∙ ap as_count (get_or-element_numbers_past entries place past)
 
 -- the limits are counts of a formula
 pub limits_are_counts : (entries : Members) → IsFine limits entries → IsFormula (limits_of entries)
@@ -50,12 +50,12 @@ limits_are_counts entries fine = record {
   elements = λ place past. limit_past entries place past;
 }
 
-positive_count : (z : ℤ) → int_lt (pos 0) z ≡ nat_lt 0 (count_of z)
+positive_count : (z : ℤ) → int_lt (pos 0) z ≡ nat_lt 0 (as_count z)
 positive_count (pos n) = refl
 positive_count (negsuc n) = refl
 
 -- some limit is positive where some integer is
-pub some_limit : (numbers : List ℤ) → list_any (int_lt (pos 0)) numbers ≡ list_any (nat_lt 0) (map count_of numbers)
+pub some_limit : (numbers : List ℤ) → list_any (int_lt (pos 0)) numbers ≡ list_any (nat_lt 0) (map as_count numbers)
 some_limit [] = refl
 some_limit (z ∷ numbers) = rw (positive_count z, some_limit numbers)
 

@@ -1,25 +1,47 @@
 -- What is read is a profile.
-use Rattle.std.proofs.Common.{◌≡◌, ℕ, List, [], true, Option, Some, None, Ok, codes, nat_lt, refl, subst, arith, ◌++◌}
-use Rattle.std.specs.Prelude.{option_and_then}
+use Rattle.std.proofs.Common.{◌≡◌, ◌≤◌, ◌+◌, ℕ, Bool, List, [], true, false, length, Option, Some, None, Ok, codes, nat_lt, refl, rules, subst, arith, ◌++◌}
+use Rattle.std.proofs.lemmas.List.Elements.{All-nil}
+use Rattle.std.specs.Prelude.{All, option_and_then, unwrap_or}
 use Rattle.std.specs.List.{list_any}
 use Rattle.std.specs.Option.{option_map_or}
-use Rattle.toml.specs.Data.{Members, as_table, get_member}
-use Rattle.profile.specs.Profile.{ProfileValue, IsProfile, default_limits}
+use Rattle.element_table.specs.Formula.{IsFormula}
+use Rattle.element_table.specs.Rule.{IsRule}
+use Rattle.toml.specs.Data.{Items, Members, as_array, as_table, get_member, no_items}
+use Rattle.profile.specs.Profile.{ProfileValue, IsProfile, default_limits, greatest_rules}
 use Rattle.profile.specs.Form.{whole}
 use Rattle.profile.specs.Fine.{IsFine}
 use Rattle.profile.specs.Places.{places_of}
 use Rattle.profile.specs.ProfileOf.{profile_in, profile_of, table_of, unless_refused}
 use Rattle.profile.specs.Refusal.{refusal_of}
-use Rattle.profile.specs.Values.{limits_of, profile_value_of}
+use Rattle.profile.specs.Values.{limits_of, profile_value_of, rules_said}
 use Rattle.profile.specs.declared.fault.ProfileFault.{ProfileFault}
-use Rattle.profile.proofs.FineLaws.{fine_table}
-use Rattle.profile.proofs.LimitLaws.{some_limit_of}
+use Rattle.profile.proofs.FineLaws.{fine_array, fine_table}
+use Rattle.profile.proofs.LimitLaws.{limits_are_counts, some_limit_of}
+use Rattle.profile.proofs.RuleLaws.{all_rules, few_from_excess}
 use Rattle.profile.proofs.SettingLaws.{setting}
 
 some_element : (entries : Members) (found : Option Members) → IsFine whole entries → option_and_then as_table (get_member (codes "elements") entries) ≡ found
     → list_any (nat_lt 0) (option_map_or limits_of found default_limits) ≡ true
 some_element entries None fine is = refl
 some_element entries (Some elements) fine is = some_limit_of (fine.before ++ codes "elements") elements (fine_table whole entries (codes "elements") elements fine refl is).0
+
+default_limits-formula : IsFormula default_limits
+default_limits-formula = search rules
+
+limits_formula : (entries : Members) (found : Option Members) → IsFine whole entries → option_and_then as_table (get_member (codes "elements") entries) ≡ found
+    → IsFormula (option_map_or limits_of found default_limits)
+limits_formula entries None fine is = default_limits-formula
+limits_formula entries (Some elements) fine is = limits_are_counts elements (fine_table whole entries (codes "elements") elements fine refl is).1
+
+rules_right : (neutral : Bool) (entries : Members) (found : Option Items) → IsFine whole entries → option_and_then as_array (get_member (codes "rules") entries) ≡ found
+    → All IsRule (rules_said neutral (unwrap_or found no_items))
+rules_right neutral entries None fine is = All-nil IsRule
+rules_right neutral entries (Some items) fine is = all_rules neutral items (fine_array whole entries (codes "rules") items fine refl is).1
+
+rules_few : (entries : Members) (found : Option Items) → IsFine whole entries → option_and_then as_array (get_member (codes "rules") entries) ≡ found
+    → length (rules_said false (unwrap_or found no_items)) + length (rules_said true (unwrap_or found no_items)) ≤ greatest_rules
+rules_few entries None fine is = omega arith
+rules_few entries (Some items) fine is = few_from_excess items (fine_array whole entries (codes "rules") items fine refl is).0
 
 -- of a table of which nothing is refused
 pub is_profile : (entries : Members) → IsFine whole entries → IsProfile (profile_value_of entries)
@@ -31,6 +53,10 @@ is_profile entries fine =
       some_peak = peaks.from;
       peaks = peaks.to;
       budget = (setting entries (codes "budget") 0 10000 200 fine refl (omega arith) (omega arith) (omega arith)).to;
+      limits = limits_formula entries (option_and_then as_table (get_member (codes "elements") entries)) fine refl;
+      rules = rules_right false entries (option_and_then as_array (get_member (codes "rules") entries)) fine refl;
+      neutral_rules = rules_right true entries (option_and_then as_array (get_member (codes "rules") entries)) fine refl;
+      few_rules = rules_few entries (option_and_then as_array (get_member (codes "rules") entries)) fine refl;
       some_element = some_element entries (option_and_then as_table (get_member (codes "elements") entries)) fine refl;
     }
 

@@ -4,6 +4,7 @@ use Rattle.std.specs.List.{list_any}
 use Rattle.std.specs.Map.{lookup}
 use Rattle.element_table.specs.Elements.{symbols}
 use Rattle.toml.specs.Data.{Data, string, integer, array, table, Items, no_items, item, Members}
+use Rattle.profile.specs.Profile.{greatest_rules}
 use Rattle.profile.specs.Table.{element_numbers}
 
 pub data Form : Type 0 where
@@ -107,11 +108,8 @@ abbrev pub items_len : Items → ℕ
 items_len no_items = 0
 items_len (item value items) = suc (items_len items)
 
-abbrev pub most_rules : ℕ
-most_rules = 32
-
 -- the number that is out of range: an integer out of its own, or how many rules there are where they are too many
 abbrev pub excess_of : Form → Data → Option ℤ
 excess_of (number least most) (integer z) = if int_le least z && int_le z most then None else Some z
-excess_of rules (array values) = if nat_le (items_len values) most_rules then None else Some (pos (items_len values))
+excess_of rules (array values) = if nat_le (items_len values) greatest_rules then None else Some (pos (items_len values))
 excess_of form value = None

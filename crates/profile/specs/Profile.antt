@@ -1,7 +1,8 @@
 -- A profile as plain values, and the default one.
-use Rattle.std.specs.Prelude.{◌≤◌, ◌++◌, ℕ, List, [], ◌∷◌, IsTrue, nat_lt, replicate}
+use Rattle.std.specs.Prelude.{◌≤◌, ◌+◌, ◌++◌, ℕ, List, [], ◌∷◌, All, IsTrue, length, nat_lt, replicate}
 use Rattle.std.specs.List.{list_any}
-use Rattle.element_table.specs.Rule.{Rule}
+use Rattle.element_table.specs.Formula.{IsFormula}
+use Rattle.element_table.specs.Rule.{IsRule, Rule}
 
 pub record ProfileValue : Type 0 where
   pub ppm : ℕ
@@ -12,13 +13,21 @@ pub record ProfileValue : Type 0 where
   pub rules : List Rule
   pub neutral_rules : List Rule
 
--- what every profile is: its numbers are in their ranges, and some element may stand in a formula
+-- how many rules a text may have, those for candidates among them
+abbrev pub greatest_rules : ℕ
+greatest_rules = 32
+
+-- what every profile is: its numbers are in their ranges, some element may stand in a formula, and each rule is one
 pub record IsProfile (profile : ProfileValue) : Type 0 where
   pub ppm : profile.ppm ≤ 100
   pub abs : profile.abs ≤ 2000000
   pub some_peak : 1 ≤ profile.peaks
   pub peaks : profile.peaks ≤ 12
   pub budget : profile.budget ≤ 10000
+  pub limits : IsFormula profile.limits
+  pub rules : All IsRule profile.rules
+  pub neutral_rules : All IsRule profile.neutral_rules
+  pub few_rules : length profile.rules + length profile.neutral_rules ≤ greatest_rules
   pub some_element : IsTrue (list_any (nat_lt 0) profile.limits)
 
 -- H 200, C 100, N 20, O 40, P 3 and S 3

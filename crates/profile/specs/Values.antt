@@ -7,21 +7,21 @@ use Rattle.profile.specs.Profile.{ProfileValue, default_profile_value}
 use Rattle.profile.specs.Table.{number_at, says, table_at, items_at, element_numbers}
 
 -- an integer that is not negative, as a count
-abbrev pub count_of : ℤ → ℕ
-count_of (pos n) = n
-count_of (negsuc n) = 0
+abbrev pub as_count : ℤ → ℕ
+as_count (pos n) = n
+as_count (negsuc n) = 0
 
 abbrev pub limits_of : Members → List ℕ
-limits_of members = map count_of (element_numbers members)
+limits_of members = map as_count (element_numbers members)
 
-abbrev pub parity_of : Members → Parity
-parity_of members = if says members (codes "parity") (codes "even") then even else if says members (codes "parity") (codes "odd") then odd else any
+abbrev pub parity_said : Members → Parity
+parity_said members = if says members (codes "parity") (codes "even") then even else if says members (codes "parity") (codes "odd") then odd else any
 
 abbrev pub rule_of : Members → Rule
 rule_of members = record {
   coefficients = element_numbers (table_at members (codes "coefficients"));
   constant = number_at members (codes "constant") (pos 0);
-  parity = parity_of members;
+  parity = parity_said members;
 }
 
 -- a rule that only candidates have to pass
@@ -42,16 +42,16 @@ is_kept true rule = is_neutral rule
 is_kept false rule = not (is_neutral rule)
 
 -- the rules that only candidates have to pass, or the others, in their order
-abbrev pub rules_of : Bool → Items → List Rule
-rules_of neutral items = map rule_of (filter (is_kept neutral) (tables_in items))
+abbrev pub rules_said : Bool → Items → List Rule
+rules_said neutral items = map rule_of (filter (is_kept neutral) (tables_in items))
 
 abbrev pub profile_value_of : Members → ProfileValue
 profile_value_of members = record {
-  ppm = count_of (number_at members (codes "ppm") (pos default_profile_value.ppm));
-  abs = count_of (number_at members (codes "abs") (pos default_profile_value.abs));
-  peaks = count_of (number_at members (codes "peaks") (pos default_profile_value.peaks));
-  budget = count_of (number_at members (codes "budget") (pos default_profile_value.budget));
+  ppm = as_count (number_at members (codes "ppm") (pos default_profile_value.ppm));
+  abs = as_count (number_at members (codes "abs") (pos default_profile_value.abs));
+  peaks = as_count (number_at members (codes "peaks") (pos default_profile_value.peaks));
+  budget = as_count (number_at members (codes "budget") (pos default_profile_value.budget));
   limits = option_map_or limits_of (option_and_then as_table (get_member (codes "elements") members)) default_profile_value.limits;
-  rules = rules_of false (items_at members (codes "rules"));
-  neutral_rules = rules_of true (items_at members (codes "rules"));
+  rules = rules_said false (items_at members (codes "rules"));
+  neutral_rules = rules_said true (items_at members (codes "rules"));
 }

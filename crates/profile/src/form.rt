@@ -58,7 +58,7 @@ const PARITIES: [&str; 3] = ["any", "even", "odd"];
 const USES: [&str; 2] = ["all", "neutral"];
 
 /// How many rules there may be.
-const MOST_RULES: usize = 32;
+const GREATEST_RULES: usize = 32;
 
 impl Form {
     /// What may stand at a key of a table of this form.
@@ -139,7 +139,7 @@ impl Form {
     }
 }
 
-// What stands at a key, where the keys name it.
+/// What stands at a key, where the keys name it.
 fn among(keys: &[(&str, Form)], key: &str) -> Form
     ensures { form_seen result ≡ spec.form_among (rows_seen keys.now) key.now }
 {
@@ -151,7 +151,7 @@ fn among(keys: &[(&str, Form)], key: &str) -> Form
     Form::Unknown
 }
 
-// An integer in a range, where the key is the symbol of an element.
+/// An integer in a range, where the key is the symbol of an element.
 fn number_of_element(key: &str, least: i64, most: i64) -> Form
     ensures { form_seen result ≡ spec.number_of_element key.now least most }
 {
@@ -162,7 +162,7 @@ fn number_of_element(key: &str, least: i64, most: i64) -> Form
     }
 }
 
-// Whether a key is the symbol of an element.
+/// Whether a key is the symbol of an element.
 fn is_symbol(key: &str) -> bool
     ensures { result ≡ spec.is_symbol key.now }
 {
@@ -174,7 +174,7 @@ fn is_symbol(key: &str) -> bool
     false
 }
 
-// Whether a value is one of some words.
+/// Whether a value is one of some words.
 fn is_word(value: &Value, words: &[&str]) -> bool
     ensures { result ≡ spec.has_kind (spec.word (map (λ word. word.now) words.now)) (view value.now) }
 {
@@ -184,7 +184,7 @@ fn is_word(value: &Value, words: &[&str]) -> bool
     }
 }
 
-// Whether a text is one of some words.
+/// Whether a text is one of some words.
 fn is_among(words: &[&str], text: &str) -> bool
     ensures { result ≡ list_any (bytes_eq text.now) (map (λ word. word.now) words.now) }
 {
@@ -196,7 +196,7 @@ fn is_among(words: &[&str], text: &str) -> bool
     false
 }
 
-// Whether a value is a table with a positive integer.
+/// Whether a value is a table with a positive integer.
 fn is_positive_table(value: &Value) -> bool
     ensures { result ≡ spec.has_kind spec.limits (view value.now) }
 {
@@ -206,7 +206,7 @@ fn is_positive_table(value: &Value) -> bool
     }
 }
 
-// Whether a table has a positive integer at the symbol of an element.
+/// Whether a table has a positive integer at the symbol of an element.
 fn has_positive(table: &Table) -> bool
     ensures { result ≡ spec.has_positive (table_view table.now) }
 {
@@ -218,7 +218,7 @@ fn has_positive(table: &Table) -> bool
     false
 }
 
-// An integer outside a range.
+/// An integer outside a range.
 fn integer_outside(value: &Value, least: i64, most: i64) -> Option<i64>
     ensures { result ≡ spec.excess_of (spec.number least most) (view value.now) }
 {
@@ -228,14 +228,14 @@ fn integer_outside(value: &Value, least: i64, most: i64) -> Option<i64>
     }
 }
 
-// How many items an array has, where they are more than there may be rules.
+/// How many items an array has, where they are more than there may be rules.
 fn too_many_items(value: &Value) -> Option<i64>
     ensures { result ≡ spec.excess_of spec.rules (view value.now) }
 {
     match value.as_array() {
         Some(items) => {
             let count = items.len();
-            if count <= MOST_RULES {
+            if count <= GREATEST_RULES {
                 None
             } else {
                 Some(count as i64)

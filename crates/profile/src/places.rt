@@ -27,7 +27,7 @@ pub(crate) fn lay_out<'a>(alloc: Global, table: &'a Table) -> Result<Vec<Place<'
     Ok(places)
 }
 
-// Adds the keys of a table of some form, each with all that stands under it.
+/// Adds the keys of a table of some form, each with all that stands under it.
 #[cycle(walk)]
 fn add_keys<'a>(
     alloc: Global,
@@ -51,7 +51,7 @@ fn add_keys<'a>(
     Ok(())
 }
 
-// Adds the items of an array of rules, each with all that stands under it.
+/// Adds the items of an array of rules, each with all that stands under it.
 #[cycle(walk)]
 fn add_items<'a>(
     alloc: Global,
@@ -68,7 +68,7 @@ fn add_items<'a>(
     Ok(())
 }
 
-// Adds a place and all that stands under it. Its name is a step after what stands before.
+/// Adds a place and all that stands under it. Its name is a step after what stands before.
 #[cycle(walk)]
 fn add_place<'a>(
     alloc: Global,
@@ -103,7 +103,7 @@ fn add_place<'a>(
     Ok(())
 }
 
-// The name of a place.
+/// The name of a place.
 fn joined(alloc: Global, before: &[u8], step: &[u8]) -> Result<Vec<u8>, AllocError>
     ensures { IfOk result (λ name. name.items ≡ before.now ++ step.now) }
 {
@@ -112,7 +112,7 @@ fn joined(alloc: Global, before: &[u8], step: &[u8]) -> Result<Vec<u8>, AllocErr
     Ok(name)
 }
 
-// The name of a place with a point, which stands before the names of what is under it.
+/// The name of a place with a point, which stands before the names of what is under it.
 fn with_point(alloc: Global, before: &[u8], step: &[u8]) -> Result<Vec<u8>, AllocError>
     ensures { IfOk result (λ name. name.items ≡ spec.point_after (before.now ++ step.now)) }
 {

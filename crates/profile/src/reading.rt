@@ -24,7 +24,7 @@ pub fn read_profile(alloc: Global, bytes: &[u8]) -> Result<Profile, ProfileFault
     Ok(profile_in(alloc, &table)?)
 }
 
-// The table of a text, where it is TOML.
+/// The table of a text, where it is TOML.
 fn read_table(alloc: Global, bytes: &[u8]) -> Result<Table, ProfileFault>
     ensures read { IfOk result (λ table. table_of bytes.now ≡ Some (table_view table)) }
     ensures refused { IfErr result (λ fault. fault ≢ OutOfMemory → (fault ≡ NotToml) × (table_of bytes.now ≡ None)) }

@@ -24,7 +24,7 @@ pub(crate) fn search_all(alloc: Global, places: &[Place<'_>]) -> Result<(), Prof
     search(alloc, places, Sought::OverLimits)
 }
 
-// Searches the places for the first fault.
+/// Searches the places for the first fault.
 fn search(alloc: Global, places: &[Place<'_>], sought: Sought) -> Result<(), ProfileFault>
     ensures { Finds result (first_fault (fault_at sought) (places_seen places.now)) }
 {
@@ -34,7 +34,7 @@ fn search(alloc: Global, places: &[Place<'_>], sought: Sought) -> Result<(), Pro
     Ok(())
 }
 
-// Whether a place is at fault.
+/// Whether a place is at fault.
 fn look_at(alloc: Global, place: &Place<'_>, sought: Sought) -> Result<(), ProfileFault>
     ensures { Finds result (fault_at sought (place_seen place.now)) }
 {
@@ -58,7 +58,7 @@ fn look_at(alloc: Global, place: &Place<'_>, sought: Sought) -> Result<(), Profi
     Ok(())
 }
 
-// A copy of a place's name.
+/// A copy of a place's name.
 fn name_of(alloc: Global, place: &Place<'_>) -> Result<Name, AllocError>
     ensures { IfOk result (λ name. name ≡ (place_seen place.now).name) }
 {

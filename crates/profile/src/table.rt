@@ -5,11 +5,11 @@ ghost use Rattle.profile.specs.Table as spec;
 ghost use Rattle.toml.specs.Data.{get_member, as_table, as_array};
 ghost use Rattle.toml.specs.View.{view, array_view, table_view};
 
-use element_table::ELEMENTS;
+use element_table::{ELEMENTS, symbol_at};
 use toml::value::Array;
 use toml::{Table, Value};
 
-// The value at a key.
+/// The value at a key.
 fn value_at<'a>(table: &'a Table, key: &str) -> Option<&'a Value>
     ensures { option_map (λ value. view value.now) result ≡ get_member key.now (table_view table.now) }
 {
@@ -37,14 +37,6 @@ pub(crate) fn element_number(table: &Table, place: usize) -> i64
     }
 }
 
-// The symbol of the element at a place.
-fn symbol_at(place: usize) -> &'static str
-    requires { place < length ELEMENTS }
-    ensures { result.now ≡ slice_index_or symbols place [] }
-{
-    ELEMENTS[place].0
-}
-
 /// Whether the string at a key is this word.
 pub(crate) fn says(table: &Table, key: &str, word: &str) -> bool
     ensures { result ≡ spec.says (table_view table.now) key.now word.now }
@@ -55,7 +47,7 @@ pub(crate) fn says(table: &Table, key: &str, word: &str) -> bool
     }
 }
 
-// Whether a value is this word.
+/// Whether a value is this word.
 fn is_word(value: &Value, word: &str) -> bool
     ensures { result ≡ spec.is_word (view value.now) word.now }
 {

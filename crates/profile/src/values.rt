@@ -34,15 +34,15 @@ pub(crate) fn profile_in(alloc: Global, table: &Table) -> Result<Profile, AllocE
     })
 }
 
-// The number at a key, or else another.
+/// The number at a key, or else another.
 fn count_at(table: &Table, key: &str, other: u32) -> u32
     requires { IsSmallCount (said.number_at (table_view table.now) key.now (pos other)) }
-    ensures { result ≡ spec.count_of (said.number_at (table_view table.now) key.now (pos other)) }
+    ensures { result ≡ spec.as_count (said.number_at (table_view table.now) key.now (pos other)) }
 {
     number_at(table, key, i64::from(other)) as u32
 }
 
-// The limits that a table gives, or else the default ones.
+/// The limits that a table gives, or else the default ones.
 fn limits_in(table: &Table) -> Limits
     requires { IsFine form.whole (table_view table.now) }
     ensures { result ≡ (spec.profile_value_of (table_view table.now)).limits }
@@ -64,20 +64,20 @@ fn limits_of(elements: &Table) -> Limits
     Limits::new(counts)
 }
 
-// The rules that candidates alone have to pass, or those that all formulas have to pass.
+/// The rules that candidates alone have to pass, or those that all formulas have to pass.
 fn rules_in(alloc: Global, table: &Table, neutral: bool) -> Result<Rules, AllocError>
     requires { IsFine form.whole (table_view table.now) }
-    ensures { IfOk result (λ rules. rules ≡ spec.rules_of neutral (said.items_at (table_view table.now) (codes "rules"))) }
+    ensures { IfOk result (λ rules. rules ≡ spec.rules_said neutral (said.items_at (table_view table.now) (codes "rules"))) }
 {
     match array_at(table, "rules") {
-        Some(items) => rules_of(alloc, items, neutral),
+        Some(items) => rules_said(alloc, items, neutral),
         None => Ok(Rules::of(Vec::new(alloc))),
     }
 }
 
-fn rules_of(alloc: Global, items: &Array, neutral: bool) -> Result<Rules, AllocError>
+fn rules_said(alloc: Global, items: &Array, neutral: bool) -> Result<Rules, AllocError>
     requires { AreFine (array_view items.now) }
-    ensures { IfOk result (λ rules. rules ≡ spec.rules_of neutral (array_view items.now)) }
+    ensures { IfOk result (λ rules. rules ≡ spec.rules_said neutral (array_view items.now)) }
 {
     let mut rules = Vec::new(alloc);
     for item in items {
@@ -86,10 +86,10 @@ fn rules_of(alloc: Global, items: &Array, neutral: bool) -> Result<Rules, AllocE
     Ok(Rules::of(rules))
 }
 
-// Adds a rule, where it is one of those that candidates alone have to pass, or one of the others.
+/// Adds a rule, where it is one of those that candidates alone have to pass, or one of the others.
 fn add_rule(item: &Value, neutral: bool, rules: &mut Vec<Rule>) -> Result<(), AllocError>
     requires { AreFine (alone (view item.now)) }
-    ensures { OnOk result (rules.new.items ≡ rules.old.items ++ spec.rules_of neutral (alone (view item.now))) }
+    ensures { OnOk result (rules.new.items ≡ rules.old.items ++ spec.rules_said neutral (alone (view item.now))) }
 {
     match item.as_table() {
         Some(rule) => {
@@ -135,7 +135,7 @@ fn coefficients_of(elements: &Table) -> [i32; FORMULA_PLACES]
 }
 
 fn parity_in(rule: &Table) -> Parity
-    ensures { parity_of result ≡ spec.parity_of (table_view rule.now) }
+    ensures { parity_of result ≡ spec.parity_said (table_view rule.now) }
 {
     if says(rule, "parity", "even") {
         Parity::Even

@@ -25,5 +25,9 @@ invariant_of-result c =
       some_peak = rw c.count_at-3.ensures known.some_peak;
       peaks = rw c.count_at-3.ensures known.peaks;
       budget = rw c.count_at-4.ensures known.budget;
+      limits = rw c.limits_in.ensures known.limits;
+      rules = rw c.in_ok-rules_in.ensures known.rules;
+      neutral_rules = rw c.in_ok-rules_in-2.ensures known.neutral_rules;
+      few_rules = rw (c.in_ok-rules_in.ensures, c.in_ok-rules_in-2.ensures) known.few_rules;
       some_element = rw c.limits_in.ensures known.some_element;
     }

@@ -4,5 +4,5 @@ use Rattle.profile.specs.Form.{whole}
 use Rattle.profile.proofs.FineLaws.{fine_array}
 use Rattle.profile.proofs.values.rules_in.Goals as goal
 
-pub rules_of-requires : goal.rules_of-requires
-rules_of-requires c = fine_array whole (table_view c.args.table.now) (codes "rules") (array_view c.in-Some.items.now) c.requires refl (sym c.in-Some.ensures)
+pub rules_said-requires : goal.rules_said-requires
+rules_said-requires c = (fine_array whole (table_view c.args.table.now) (codes "rules") (array_view c.in-Some.items.now) c.requires refl (sym c.in-Some.ensures)).1

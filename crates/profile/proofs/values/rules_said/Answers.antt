@@ -3,8 +3,8 @@ use Rattle.std.proofs.lemmas.Grind.{common_steps}
 use Rattle.toml.specs.View.{view, items_view}
 use Rattle.toml.proofs.Views.{items_view-drop}
 use Rattle.profile.proofs.FineLaws.{fine_alone, fine_others}
-use Rattle.profile.proofs.RuleLaws.{rules_of-first}
-use Rattle.profile.proofs.values.rules_of.Goals as goal
+use Rattle.profile.proofs.RuleLaws.{rules_said-first}
+use Rattle.profile.proofs.values.rules_said.Goals as goal
 
 pub add_rule-requires : goal.add_rule-requires
 add_rule-requires c =
@@ -23,7 +23,7 @@ loop-item-preserved c =
     let at : get_or values i item ≡ item = grind (arith, common_steps) in
     let step = items_view-drop values i item c.loop-item-test.true in
     let fine = rw (step, at) at c.loop-item.invariant.fine in
-    let so_far = rw (step, at, rules_of-first c.args.neutral (view item) (items_view (drop (i + 1) values))) at c.loop-item.invariant.so_far in
+    let so_far = rw (step, at, rules_said-first c.args.neutral (view item) (items_view (drop (i + 1) values))) at c.loop-item.invariant.so_far in
     record {
       fine = fine_others (view item) (items_view (drop (i + 1) values)) fine;
       so_far = rw (c.in_ok-add_rule.ensures, append_assoc) so_far;
