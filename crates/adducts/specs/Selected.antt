@@ -18,7 +18,7 @@ rank_cmp one other =
     ordering_then (ordering_then (nat_cmp other.intensity one.intensity) (nat_cmp one.mz other.mz))
     (nat_cmp one.line other.line)
 
--- No spectrum has more selected peaks, whatever is chosen.
+-- A profile never asks for more selected peaks.
 abbrev pub greatest_peaks : ℕ
 greatest_peaks = 40
 
