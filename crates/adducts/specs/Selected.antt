@@ -18,10 +18,6 @@ rank_cmp one other =
     ordering_then (ordering_then (nat_cmp other.intensity one.intensity) (nat_cmp one.mz other.mz))
     (nat_cmp one.line other.line)
 
--- A profile never asks for more selected peaks.
-abbrev pub greatest_peaks : ℕ
-greatest_peaks = 40
-
 -- m/z falling
 abbrev pub falling_cmp : PeakValue → PeakValue → Ordering
 falling_cmp one other = nat_cmp other.mz one.mz
