@@ -1,3 +1,8 @@
+pub mod Running
+pub mod ProfilePromise
+pub mod ListPromise
+pub mod ListSteps
 pub mod Reports
 pub mod Below
-pub mod OptionWords
+pub mod OptionsOf
+pub mod OrderOf

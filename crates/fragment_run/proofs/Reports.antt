@@ -10,9 +10,9 @@ use Rattle.mgf_reader.specs.declared.fault.MgfFault.{MgfFault}
 use Rattle.mgf_reader.specs.Spectrum.{SpectrumValue}
 use Rattle.mgf_reader.specs.Grammar.{Reads}
 use Rattle.mgf_reader.specs.Stands.{ReaderValue, Stands, Answers, answer_of}
-use Rattle.fragment_run.specs.ListForm.{Section, section_lines, ending_line}
-use Rattle.fragment_run.specs.Settings.{SettingsValue}
-use Rattle.fragment_run.specs.Sections.{AreSections, IsSection, IsReport, IsReportPart}
+use Rattle.fragment_run.specs.list.ReportForm.{Section, section_lines, ending_line}
+use Rattle.fragment_run.specs.RunSettings.{RunSettingsValue}
+use Rattle.fragment_run.specs.list.Sections.{AreSections, IsSection, IsReport, IsReportPart}
 
 -- two texts with the same answer have the same fault
 same_fault : (one other : Option MgfFault) → answer_of one ≡ answer_of other → one ≡ other
@@ -40,7 +40,7 @@ read_to_end before middle after text fed ended fault new feeds breaks ends is =
     subst (λ f. Reads text after.waiting f) (same_fault answers.fault fault (sym answers.answer ∙ is)) answers.reads
 
 -- sections of some spectra, and one more of the next
-AreSections-push : (settings : SettingsValue) (spectra : List SpectrumValue) (sections : List Section) (spectrum : SpectrumValue) (section : Section)
+AreSections-push : (settings : RunSettingsValue) (spectra : List SpectrumValue) (sections : List Section) (spectrum : SpectrumValue) (section : Section)
     → AreSections settings spectra sections → IsSection settings spectrum section → AreSections settings (spectra ++ spectrum ∷ []) (sections ++ section ∷ [])
 AreSections-push settings [] [] spectrum section are is = (is, tt)
 AreSections-push settings [] (other ∷ others) spectrum section are is = absurd are
@@ -52,17 +52,17 @@ flat_map-push [] section = append-nil (section_lines section)
 flat_map-push (first ∷ sections) section = ap (λ (bytes : List ℕ). section_lines first ++ bytes) (flat_map-push sections section) ∙ sym (append_assoc (section_lines first) (flat_map section_lines sections) (section_lines section))
 
 -- The sections of the spectra that were handed out stand in a report; the others wait.
-pub record Pushed (settings : SettingsValue) (all waiting : List SpectrumValue) (before now : List ℕ) : Type 0 where
+pub record Pushed (settings : RunSettingsValue) (all waiting : List SpectrumValue) (before now : List ℕ) : Type 0 where
   pub out : List SpectrumValue
   pub sections : List Section
   pub whole : all ≡ out ++ waiting
   pub are_sections : AreSections settings out sections
   pub bytes : now ≡ before ++ flat_map section_lines sections
 
-pub pushed_none : (settings : SettingsValue) (all : List SpectrumValue) (before : List ℕ) → Pushed settings all all before before
+pub pushed_none : (settings : RunSettingsValue) (all : List SpectrumValue) (before : List ℕ) → Pushed settings all all before before
 pushed_none settings all before = record { out = []; sections = []; whole = refl; are_sections = tt; bytes = sym (append-nil before) }
 
-pub pushed_more : (settings : SettingsValue) (all waiting rest : List SpectrumValue) (before now next : List ℕ) (spectrum : SpectrumValue) (section : Section)
+pub pushed_more : (settings : RunSettingsValue) (all waiting rest : List SpectrumValue) (before now next : List ℕ) (spectrum : SpectrumValue) (section : Section)
     → Pushed settings all waiting before now
     → waiting ≡ spectrum ∷ rest
     → IsSection settings spectrum section
@@ -76,19 +76,19 @@ pushed_more settings all waiting rest before now next spectrum section pushed ta
   bytes = more ∙ ap (λ (b : List ℕ). b ++ section_lines section) pushed.bytes ∙ append_assoc before (flat_map section_lines pushed.sections) (section_lines section) ∙ ap (λ (b : List ℕ). before ++ b) (sym (flat_map-push pushed.sections section));
 }
 
-pub pushed_all : (settings : SettingsValue) (all waiting : List SpectrumValue) (before now : List ℕ) → Pushed settings all waiting before now → waiting ≡ [] → (sections : List Section) × AreSections settings all sections × (now ≡ before ++ flat_map section_lines sections)
+pub pushed_all : (settings : RunSettingsValue) (all waiting : List SpectrumValue) (before now : List ℕ) → Pushed settings all waiting before now → waiting ≡ [] → (sections : List Section) × AreSections settings all sections × (now ≡ before ++ flat_map section_lines sections)
 pushed_all settings all waiting before now pushed none =
     (pushed.sections, subst (λ (s : List SpectrumValue). AreSections settings s pushed.sections) (sym (pushed.whole ∙ ap (λ (w : List SpectrumValue). pushed.out ++ w) none ∙ append-nil pushed.out)) pushed.are_sections, pushed.bytes)
 
 -- right sections are as many as their spectra
-length-AreSections : (settings : SettingsValue) (spectra : List SpectrumValue) (sections : List Section) → AreSections settings spectra sections → length sections ≡ length spectra
+length-AreSections : (settings : RunSettingsValue) (spectra : List SpectrumValue) (sections : List Section) → AreSections settings spectra sections → length sections ≡ length spectra
 length-AreSections settings [] [] are = refl
 length-AreSections settings [] (other ∷ others) are = absurd are
 length-AreSections settings (first ∷ spectra) [] are = absurd are
 length-AreSections settings (first ∷ spectra) (other ∷ others) are = ap suc (length-AreSections settings spectra others are.1)
 
 -- any first bytes of a right report are a first part of it
-pub part_of : (settings : SettingsValue) (text : List ℕ) (fault : Option MgfFault) (bytes : List ℕ) (n : ℕ) → IsReport settings text fault bytes → IsReportPart settings text (take n bytes)
+pub part_of : (settings : RunSettingsValue) (text : List ℕ) (fault : Option MgfFault) (bytes : List ℕ) (n : ℕ) → IsReport settings text fault bytes → IsReportPart settings text (take n bytes)
 part_of settings text fault bytes n report =
     let same : length report.sections ≡ length report.spectra = length-AreSections settings report.spectra report.sections report.are_sections in
     let none : nat_lt (length report.sections) (length report.spectra) ≡ false = grind (arith, nat_tests) in

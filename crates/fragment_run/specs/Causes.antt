@@ -11,9 +11,9 @@ use Rattle.fragment_run.specs.Class.{Class, class_of, ended, refused, open_fault
 abbrev pub IsUnwritten : DeskState → Type 0
 IsUnwritten now = (slot : Slot) → IsWritten slot → IsEmpty (now.written slot)
 
--- What a class says of the desk, between the state before a run and that after it. A fault is one of the slot that it names, counted in
--- the run, which was begun or not as it says; what is too long or refused is a read slot that was begun; and at the end of all work every
--- written slot that was begun was finished.
+-- What a class says of the desk, between the state before a run and that after it. A fault is one of the slot that it
+-- names, counted in the run, which was begun or not as it says; what is too long or refused is a read slot that was
+-- begun; and at the end of all work every written slot that was begun was finished.
 abbrev pub CauseOf : DeskState → DeskState → Class → Type 0
 CauseOf before now (open_fault slot) = IsCounted slot before now × (now.begun slot ≡ false)
 CauseOf before now (read_fault slot) = IsRead slot × IsCounted slot before now × (now.begun slot ≡ true)

@@ -6,8 +6,8 @@ use Rattle.fragment_run.specs.declared.status.Status.{Status}
 use Rattle.fragment_run.specs.Class.{class_of, IsAnswer, StopsEarly}
 use Rattle.fragment_run.specs.Causes.{IsUnwritten}
 
--- What a command's texts mean: which statuses answer them, with which bytes in the written slots; and which bytes are first parts of
--- those, so that they may stand where a run stops early.
+-- What a command's texts mean: which statuses answer them, with which bytes in the written slots; and which bytes are
+-- first parts of those, so that they may stand where a run stops early.
 pub record Meaning : Type 1 where
   pub right : Status → (Slot → Option (List ℕ)) → Type 0
   pub part : (Slot → Option (List ℕ)) → Type 0

@@ -28,7 +28,8 @@ FitLimits done before now class =
 
 -- The texts that were begun were read to their ends.
 abbrev pub AreReadWhole : List Begin → DeskState → DeskState → Type 0
-AreReadWhole done before now = (slot : Slot) → IsRead slot → IfSome (text_in done before slot) (λ text. now.left slot ≡ Some [])
+AreReadWhole done before now =
+    (slot : Slot) → IsRead slot → IfSome (text_in done before slot) (λ text. now.left slot ≡ Some [])
 
 -- The desk tells the texts of these begins, and each is within its limit.
 abbrev pub AreWithinLimits : List Begin → DeskState → Type 0

@@ -8,7 +8,9 @@ abbrev pub formula_line : List ℕ → List ℕ
 formula_line counts = codes "f " ++ formula_text counts ++ codes "\n"
 
 abbrev pub list_lines : FormulaListValue → List ℕ
-list_lines list = codes "list " ++ decimal list.mz ++ codes " " ++ decimal list.intensity ++ codes " " ++ decimal (length list.formulas) ++ codes "\n" ++ flat_map formula_line list.formulas
+list_lines list =
+    codes "list " ++ decimal list.mz ++ codes " " ++ decimal list.intensity ++ codes " "
+    ++ decimal (length list.formulas) ++ codes "\n" ++ flat_map formula_line list.formulas
 
 -- the lists of a spectrum, behind their number
 abbrev pub lists_lines : List FormulaListValue → List ℕ

@@ -31,8 +31,9 @@ list_options =
 abbrev pub list_order_of : List Given → Option Order
 list_order_of options =
     option_and_then (λ spectra.
-        option_map (λ adduct. list (record { spectra = spectra; profile = value_in (codes "--profile") options; adduct = adduct }))
-        (adduct_by (value_in (codes "--adduct") options)))
+    option_map
+    (λ adduct. list (record { spectra = spectra; profile = value_in (codes "--profile") options; adduct = adduct }))
+    (adduct_by (value_in (codes "--adduct") options)))
     (value_in (codes "--in") options)
 
 -- The first word is the command, and the later ones give its options. All other words are no order.

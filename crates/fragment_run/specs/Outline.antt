@@ -20,21 +20,26 @@ mzs_of precursor selected = precursor ∷ map (λ peak. peak.mz) selected
 
 -- the lists of a spectrum: the precursor's, which has the intensity 0, then those of the selected peaks
 abbrev pub lists_of : RunSettingsValue → ℕ → List PeakValue → List FormulaListValue
-lists_of settings precursor selected = list_at settings precursor 0 ∷ map (λ peak. list_at settings peak.mz peak.intensity) selected
+lists_of settings precursor selected =
+    list_at settings precursor 0 ∷ map (λ peak. list_at settings peak.mz peak.intensity) selected
 
 -- what stands of the lists, where the first that has too many formulas is known
 abbrev pub outline_with : Option ℕ → List FormulaListValue → OutlineValue
 outline_with (Some mz) lists = skipped (too_many mz)
 outline_with None lists = listed lists
 
--- what stands of a spectrum with this precursor and these selected peaks: it is skipped for its first list with too many formulas, if
--- there is one; else its lists stand
+-- what stands of a spectrum with this precursor and these selected peaks: it is skipped for its first list with too
+-- many formulas, if there is one; else its lists stand
 abbrev pub explained : RunSettingsValue → ℕ → List PeakValue → OutlineValue
-explained settings precursor selected = outline_with (find (has_too_many settings) (mzs_of precursor selected)) (lists_of settings precursor selected)
+explained settings precursor selected =
+    outline_with (find (has_too_many settings) (mzs_of precursor selected)) (lists_of settings precursor selected)
 
--- what stands of a spectrum: it is skipped for the first reason why it cannot be used, if there is one; else its lists explain it
+-- what stands of a spectrum: it is skipped for the first reason why it cannot be used, if there is one; else its lists
+-- explain it
 abbrev pub IsOutline : RunSettingsValue → List PeakValue → Fit → OutlineValue → Type 0
 IsOutline settings peaks NoPrecursor outline = outline ≡ skipped no_precursor
 IsOutline settings peaks Charge outline = outline ≡ skipped charge
 IsOutline settings peaks (Range mz) outline = outline ≡ skipped (range mz)
-IsOutline settings peaks (Usable mz) outline = (selected : List PeakValue) × Selected settings.choice mz peaks selected × (outline ≡ explained settings mz selected)
+IsOutline settings peaks (Usable mz) outline =
+    (selected : List PeakValue) × Selected settings.choice mz peaks selected
+    × (outline ≡ explained settings mz selected)

@@ -22,9 +22,9 @@ outcome_of gives (Some name) = option_map profile_of (gives name)
 abbrev pub OnlyProfile : DeskState → Type 0
 OnlyProfile now = (slot : Slot) → slot ≢ Profile → now.begun slot ≡ false
 
--- The promise on the profile: a refusal is that of its text, and never for want of memory; where the profile stops the run, or its text
--- is refused, no other slot is begun; a text that is refused stops the run; and one within the limit is told as refused where no fault
--- of it is counted and memory is there.
+-- The promise on the profile: a refusal is that of its text, and never for want of memory; where the profile stops the
+-- run, or its text is refused, no other slot is begun; a text that is refused stops the run; and one within the limit
+-- is told as refused where no fault of it is counted and memory is there.
 pub record ProfilePromise (name : Option (List ℕ)) (before now : DeskState) (status : Status) : Type 0 where
   pub refusal : (fault : ProfileFault) → status ≡ ProfileRefused fault
       → (fault ≢ OutOfMemory) × IfSome (option_and_then before.gives name) (λ text. profile_of text ≡ Err fault)

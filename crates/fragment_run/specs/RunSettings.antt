@@ -8,7 +8,8 @@ use Rattle.adducts.specs.Adduct.{AdductValue}
 use Rattle.adducts.specs.declared.choice.Choice.{Choice}
 use Rattle.profile.specs.Profile.{ProfileValue}
 
--- the adduct, the width of windows and the number of selected peaks; the greatest count of each element; and the rules of a fragment
+-- the adduct, the width of windows and the number of selected peaks; the greatest count of each element; and the rules
+-- of a fragment
 pub record RunSettingsValue : Type 0 where
   pub choice : Choice
   pub limits : List ℕ

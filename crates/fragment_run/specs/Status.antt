@@ -45,5 +45,6 @@ fault_line (ReadFault slot) = codes "read fault: " ++ slot_name_of slot ++ codes
 fault_line (WriteFault slot) = codes "write fault: " ++ slot_name_of slot ++ codes "\n"
 fault_line (OpenFault slot) = codes "open fault: " ++ slot_name_of slot ++ codes "\n"
 fault_line (TooLong slot) = codes "too long: " ++ slot_name_of slot ++ codes "\n"
-fault_line (MgfRefused fault) = codes "mgf: line " ++ decimal fault.line ++ codes ": " ++ kind_text fault.kind ++ codes "\n"
+fault_line (MgfRefused fault) =
+    codes "mgf: line " ++ decimal fault.line ++ codes ": " ++ kind_text fault.kind ++ codes "\n"
 fault_line (ProfileRefused fault) = codes "profile: " ++ refusal_text fault ++ codes "\n"

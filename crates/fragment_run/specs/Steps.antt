@@ -8,9 +8,10 @@ use Rattle.fragment_run.specs.Class.{class_of, open_fault, IsAnswer, IsPastBegin
 use Rattle.fragment_run.specs.Begins.{Begin, HasBegun, IsNext}
 use Rattle.fragment_run.specs.Limits.{AreReadWhole, AreWithinLimits, FitLimits}
 
--- Exactly the first slots of the order were begun, each under its name: all of them, where the class says that the run came past its
--- begins; and an open fault is that of the next one. The texts that were begun were read up to their limits, and whole where they are
--- answered. They are answered where each is within its limit, no fault was counted, and memory is there.
+-- Exactly the first slots of the order were begun, each under its name: all of them, where the class says that the run
+-- came past its begins; and an open fault is that of the next one. The texts that were begun were read up to their
+-- limits, and whole where they are answered. They are answered where each is within its limit, no fault was counted,
+-- and memory is there.
 pub record Steps (order : List Begin) (before now : DeskState) (status : Status) : Type 0 where
   pub done : List Begin
   pub rest : List Begin

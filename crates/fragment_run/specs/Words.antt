@@ -50,9 +50,9 @@ is_flag_need flag = true
 abbrev pub is_flag : List OptionRow → List ℕ → Bool
 is_flag table word = list_any (λ row. bytes_eq row.name word && is_flag_need row.need) table
 
--- The options that words give to a command, in their order: a word with an equals sign gives one by itself, and so does an option without
--- a value; any other word is the name of one whose value is the next word, which begins with no dash. None where the words have another
--- form.
+-- The options that words give to a command, in their order: a word with an equals sign gives one by itself, and so does
+-- an option without a value; any other word is the name of one whose value is the next word, which begins with no dash.
+-- None where the words have another form.
 abbrev pub options_of : List OptionRow → List (List ℕ) → Option (List Given)
 options_of table [] = Some []
 options_of table (word ∷ []) =
@@ -60,7 +60,8 @@ options_of table (word ∷ []) =
     if is_flag table word then Some (record { name = word; value = None } ∷ []) else None
 options_of table (word ∷ next ∷ later) =
     if has_equals_sign word then option_map (λ options. joined word ∷ options) (options_of table (next ∷ later)) else
-    if is_flag table word then option_map (λ options. record { name = word; value = None } ∷ options) (options_of table (next ∷ later)) else
+    if is_flag table word
+    then option_map (λ options. record { name = word; value = None } ∷ options) (options_of table (next ∷ later)) else
     if begins_with_dash next then None else
     option_map (λ options. record { name = word; value = Some next } ∷ options) (options_of table later)
 
@@ -83,11 +84,13 @@ meets need values = false
 
 -- Each option is one of the command's, and for each of these there is what it needs.
 abbrev pub has_form : List OptionRow → List Given → Bool
-has_form table options = list_all (is_in_table table) options && list_all (λ row. meets row.need (values_of row.name options)) table
+has_form table options =
+    list_all (is_in_table table) options && list_all (λ row. meets row.need (values_of row.name options)) table
 
 -- the options that words of the right form give to a command
 abbrev pub form_of : List OptionRow → List (List ℕ) → Option (List Given)
-form_of table words = option_and_then (λ options. if has_form table options then Some options else None) (options_of table words)
+form_of table words =
+    option_and_then (λ options. if has_form table options then Some options else None) (options_of table words)
 
 abbrev pub first_value : List (Option (List ℕ)) → Option (List ℕ)
 first_value [] = None

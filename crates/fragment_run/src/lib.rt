@@ -26,7 +26,6 @@ mod tests;
 mod words;
 
 use frag_io::Desk;
-use orders::Order;
 pub use status::{Status, fault_text};
 use std::alloc::Global;
 pub use steps::{GREATEST_DOCUMENT, GREATEST_TEXT};
@@ -51,7 +50,7 @@ pub fn run<D: Desk>(alloc: Global, words: &[String], desk: &mut D) -> Status
         → ListPromise names (D.state desk.old) (D.state desk.new) result }
 {
     match orders::read_order(words) {
-        Some(Order::List(names)) => list::list(alloc, &names, desk),
+        Some(orders::Order::List(names)) => list::list(alloc, &names, desk),
         None => Status::Words,
     }
 }

@@ -1,4 +1,5 @@
-//! The command `list`: reads a text of spectra and reports for each the formulas of its precursor and its selected peaks.
+//! The command `list`: reads a text of spectra and reports for each the formulas of its precursor and its selected
+//! peaks.
 ghost use Rattle.std.specs.Prelude.{◌≡◌, ◌≢◌, ◌≤◌, ◌++◌, List, ℕ, false, length, take, IfSome, IfOk, IfErr, OnOk, OnErr};
 ghost use Rattle.frag_io.specs.declared.desk.Slot.{Slot};
 ghost use Rattle.frag_io.specs.declared.desk.Slot.TheVariants.{Spectra, Report};
@@ -73,7 +74,9 @@ fn list_under<D: Desk>(
 {
     let rules = fragment_rules_of(alloc, profile, &adduct)?;
     let kept = Vec::from_slice(alloc, &rules)?;
-    let test = Box::new(alloc, move |formula: &Formula| all_hold(&kept, formula))?;
+    let Ok(test) = Box::new(alloc, move |formula: &Formula| all_hold(&kept, formula)) else {
+        return Err(Status::Memory);
+    };
     let settings = RunSettings {
         choice: choice_of(profile, adduct),
         limits: profile.limits,
@@ -136,7 +139,8 @@ fn read_spectra<D: Desk>(alloc: Global, name: &str, desk: &mut D) -> Result<Vec<
 fn write_report<D: Desk>(alloc: Global, desk: &mut D, report: &[u8]) -> Result<(), Status>
     requires begun { OnlyListed (D.state desk.old) }
     requires unfinished { (D.state desk.old).finished Report ≡ false }
-    ensures all { OnOk result ((D.state desk.new).written Report ≡ appended ((D.state desk.old).written Report) report.now) }
+    ensures all { OnOk result
+        ((D.state desk.new).written Report ≡ appended ((D.state desk.old).written Report) report.now) }
     ensures part { OnErr result ((n : ℕ)
         × ((D.state desk.new).written Report ≡ appended ((D.state desk.old).written Report) (take n report.now))) }
     ensures answer { IfErr result (IsWriteAnswer Report) }

@@ -13,7 +13,12 @@ pub fn push_number(alloc: Global, text: &mut Vec<u8>, number: u64) -> Result<(),
 }
 
 /// Appends a line that ends in a number.
-pub fn push_line(alloc: Global, text: &mut Vec<u8>, words: &[u8], number: u64) -> Result<(), AllocError>
+pub fn push_line(
+    alloc: Global,
+    text: &mut Vec<u8>,
+    words: &[u8],
+    number: u64,
+) -> Result<(), AllocError>
     ensures { OnOk result (text.new.items ≡ text.old.items ++ words.now ++ decimal number ++ codes "\n") }
 {
     text.extend_from_slice(words)?;

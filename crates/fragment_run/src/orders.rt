@@ -40,7 +40,8 @@ const LIST_OPTIONS: [OptionRow; 3] = [
 
 /// What the words ask for. `None` exactly where they are no order.
 pub fn read_order(words: &[String]) -> Option<Order<'_>>
-    ensures { MatchOption result (order_of (texts_of words.now) ≡ None) (λ order. order_of (texts_of words.now) ≡ Some (order_read order)) }
+    ensures { MatchOption result (order_of (texts_of words.now) ≡ None)
+        (λ order. order_of (texts_of words.now) ≡ Some (order_read order)) }
 {
     match words {
         [command, later @ ..] if command.as_str() == "list" => match list_names(later) {
@@ -51,10 +52,12 @@ pub fn read_order(words: &[String]) -> Option<Order<'_>>
     }
 }
 
-/// What a list with these options is asked for. `None` where the words have another form, or name no adduct of the table.
+/// What a list with these options is asked for. `None` where the words have another form, or name no adduct of the
+/// table.
 fn list_names(words: &[String]) -> Option<ListNames<'_>>
     ensures { MatchOption result (option_and_then list_order_of (form_of list_options (texts_of words.now)) ≡ None)
-        (λ names. option_and_then list_order_of (form_of list_options (texts_of words.now)) ≡ Some (list (names_of names))) }
+        (λ names. option_and_then list_order_of (form_of list_options (texts_of words.now))
+        ≡ Some (list (names_of names))) }
 {
     let table = LIST_OPTIONS;
     if !is_of_form(&table, words) {

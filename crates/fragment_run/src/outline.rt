@@ -29,7 +29,8 @@ pub fn read_outline(
     spectrum: &Spectrum,
     settings: &RunSettings,
 ) -> Result<Outline, AllocError>
-    ensures { IfOk result (λ outline. IsOutline (settings_value_of settings.now) spectrum.now.peaks (fit_of spectrum.now (settings_value_of settings.now).choice) (outline_of outline)) }
+    ensures { IfOk result (λ outline. IsOutline (settings_value_of settings.now) spectrum.now.peaks
+        (fit_of spectrum.now (settings_value_of settings.now).choice) (outline_of outline)) }
 {
     match fit(spectrum, &settings.choice) {
         Fit::NoPrecursor => Ok(Outline::Skipped(Skip::NoPrecursor)),
@@ -42,7 +43,8 @@ pub fn read_outline(
     }
 }
 
-/// What stands of a spectrum with this precursor and these selected peaks: their lists, or that one has too many formulas.
+/// What stands of a spectrum with this precursor and these selected peaks: their lists, or that one has too many
+/// formulas.
 fn explain(
     alloc: Global,
     settings: &RunSettings,
@@ -52,7 +54,8 @@ fn explain(
     requires measured { precursor ≤ 10 ^ 18 }
     requires light { (window_at (settings_value_of settings.now) precursor).centre ≤ℤ greatest_neutral_mass }
     requires below { All (λ peak. peak.mz ≤ precursor) selected.now }
-    ensures { IfOk result (λ outline. outline_of outline ≡ explained (settings_value_of settings.now) precursor selected.now) }
+    ensures { IfOk result (λ outline. outline_of outline
+        ≡ explained (settings_value_of settings.now) precursor selected.now) }
 {
     let mut lists = Vec::new(alloc);
     if !add_list(alloc, &mut lists, settings, precursor, 0)? {
@@ -77,7 +80,8 @@ fn add_list(
     requires measured { mz ≤ 10 ^ 18 }
     requires light { (window_at (settings_value_of settings.now) mz).centre ≤ℤ greatest_neutral_mass }
     ensures told { IfOk result (λ added. added ≡ not (has_too_many (settings_value_of settings.now) mz)) }
-    ensures lists { result ≡ Ok true → lists.new.items ≡ lists.old.items ++ list_at (settings_value_of settings.now) mz intensity ∷ [] }
+    ensures lists { result ≡ Ok true
+        → lists.new.items ≡ lists.old.items ++ list_at (settings_value_of settings.now) mz intensity ∷ [] }
 {
     match list(
         alloc,

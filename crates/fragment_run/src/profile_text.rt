@@ -1,12 +1,13 @@
 //! The profile of a run: that of the text that it names, or the default one.
-ghost use Rattle.std.specs.Prelude.{◌≡◌, ◌⊎◌, ◌++◌, List, false, None, Some, option_map, OnOk, IfOk, IfErr};
+ghost use Rattle.std.specs.Prelude.{◌≡◌, ◌⊎◌, ◌++◌, List, false, None, Some, Ok, option_map, OnOk, IfOk, IfErr};
 ghost use Rattle.frag_io.specs.declared.desk.Slot.{Slot};
 ghost use Rattle.frag_io.specs.Slot.{Same};
+ghost use Rattle.profile.specs.Profile.{ProfileValue};
 ghost use Rattle.fragment_run.specs.Begins.{Begin, profile_begin};
 ghost use Rattle.fragment_run.specs.Causes.{IsUnwritten};
-ghost use Rattle.fragment_run.specs.Class.{class_of, memory, IsOfProfile};
+ghost use Rattle.fragment_run.specs.Class.{class_of, memory, IsAnswer, IsOfProfile};
 ghost use Rattle.fragment_run.specs.Limits.{AreReadWhole};
-ghost use Rattle.fragment_run.specs.ProfilePromise.{OnlyProfile, ProfilePromise};
+ghost use Rattle.fragment_run.specs.ProfilePromise.{OnlyProfile, ProfilePromise, outcome_of};
 ghost use Rattle.fragment_run.specs.inside.ProfileTaken.{IsTaken, refusal_of};
 ghost use Rattle.fragment_run.specs.inside.Running.{Ends, Runs};
 
@@ -24,15 +25,19 @@ pub fn take_profile<D: Desk>(
 ) -> Result<Profile, Status>
     requires fresh { (slot : Slot) → (D.state desk.old).begun slot ≡ false }
     ensures taken { IfOk result (IsTaken (D.state desk.old).gives (option_map (λ name. name.now) name.entry)) }
-    ensures whole { OnOk result (AreReadWhole (profile_begin (option_map (λ name. name.now) name.entry)) (D.state desk.old)
-        (D.state desk.new)) }
+    ensures whole { OnOk result (AreReadWhole (profile_begin (option_map (λ name. name.now) name.entry))
+        (D.state desk.old) (D.state desk.new)) }
     ensures runs { OnOk result (Runs (profile_begin (option_map (λ name. name.now) name.entry)) (D.state desk.old)
         (D.state desk.new)) }
     ensures ends { (rest : List Begin) → IfErr result
-        (Ends (profile_begin (option_map (λ name. name.now) name.entry) ++ rest) (D.state desk.old) (D.state desk.new)) }
+        (Ends (profile_begin (option_map (λ name. name.now) name.entry) ++ rest) (D.state desk.old)
+        (D.state desk.new)) }
     ensures promise { IfErr result (ProfilePromise (option_map (λ name. name.now) name.entry) (D.state desk.old)
         (D.state desk.new)) }
     ensures own { IfErr result (λ status. (class_of status ≡ memory) ⊎ IsOfProfile (class_of status)) }
+    ensures accepted { IfErr result (λ status. (profile : ProfileValue)
+        → outcome_of (D.state desk.old).gives (option_map (λ name. name.now) name.entry) ≡ Some (Ok profile)
+        → IsAnswer (class_of status) → ⊥) }
     ensures only { OnlyProfile (D.state desk.new) }
     ensures finished { Same (D.state desk.old).finished (D.state desk.new).finished }
     ensures unwritten { IsUnwritten (D.state desk.old) → IsUnwritten (D.state desk.new) }
@@ -53,6 +58,8 @@ fn read_named<D: Desk>(alloc: Global, name: &str, desk: &mut D) -> Result<Profil
         (Ends (profile_begin (Some name.now) ++ rest) (D.state desk.old) (D.state desk.new)) }
     ensures promise { IfErr result (ProfilePromise (Some name.now) (D.state desk.old) (D.state desk.new)) }
     ensures own { IfErr result (λ status. (class_of status ≡ memory) ⊎ IsOfProfile (class_of status)) }
+    ensures accepted { IfErr result (λ status. (profile : ProfileValue)
+        → outcome_of (D.state desk.old).gives (Some name.now) ≡ Some (Ok profile) → IsAnswer (class_of status) → ⊥) }
     ensures only { OnlyProfile (D.state desk.new) }
     ensures finished { Same (D.state desk.old).finished (D.state desk.new).finished }
     ensures unwritten { IsUnwritten (D.state desk.old) → IsUnwritten (D.state desk.new) }

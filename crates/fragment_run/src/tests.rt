@@ -16,8 +16,8 @@ const WATER_LIST: &[u8] = b"spectrum 1 \nlists 1\nlist 190178410 0 1\nf H2O\ndon
 // A profile with carbon, hydrogen and oxygen alone.
 const SUGARS: &[u8] = b"[elements]\nC = 100\nH = 200\nO = 40\n";
 
-// How a run ended, its code and the line that tells it, what it left in the report, and how many faults of each slot were
-// counted.
+// How a run ended, its code and the line that tells it, what it left in the report, and how many faults of each slot
+// were counted.
 #[derive(Drop)]
 struct Outcome {
     code: u8,
@@ -282,6 +282,10 @@ fn refused_profiles_are_told(rt: HostRuntime) -> Result<(), Fail> {
         (b"ppm = \"10\"\n", b"profile: bad value ppm\n"),
         (b"ppm =\n", b"profile: not TOML\n"),
         (b"'a\\' = 1\n", b"profile: unknown key a\\x5c\n"),
+        (
+            b"a_name_that_is_longer_than_forty_bytes_in_all = 1\n",
+            b"profile: unknown key a_name_that_is_longer_than_forty_bytes_in_all\n",
+        ),
     ] {
         let outcome = run_words(
             rt.alloc(),
@@ -297,6 +301,20 @@ fn refused_profiles_are_told(rt: HostRuntime) -> Result<(), Fail> {
     }
     let words = "list --in a --profile p";
     lists(&rt, rt.alloc(), words, WATER, b"ppm = 100\n", 0, WATER_LIST)?;
+    Ok(())
+}
+
+// A window of 0.4 Da at 1,500 Da holds far more than 20,000 formulas of these elements.
+#[test]
+fn a_list_too_long_is_told(rt: HostRuntime) -> Result<(), Fail> {
+    let words = "list --in a --profile p";
+    let text = b"BEGIN IONS\nPEPMASS=1500\nEND IONS\n";
+    let wide =
+        b"ppm = 100\nabs = 2000000\n[elements]\nC = 1999\nH = 1999\nN = 1999\nO = 1999\nP = 1999\nS = 1999\n";
+    let report = b"spectrum 1 \nskip too-many 15000000000\ndone\nend clean\n";
+    let outcome = run_words(rt.alloc(), words, text, wide, None, 65_536)?;
+    assert_eq!(rt; outcome.code, 0);
+    assert_eq!(rt; outcome.report.as_slice(), report.as_slice());
     Ok(())
 }
 

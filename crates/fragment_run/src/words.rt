@@ -3,8 +3,8 @@ ghost use Rattle.std.specs.Prelude.{◌≡◌, ◌≤◌, ◌∷◌, ◌++◌, �
 ghost use Rattle.std.specs.Option.{option_copied};
 ghost use Rattle.std.specs.List.{list_all, list_any};
 ghost use Rattle.std.specs.Str.{bytes_eq};
-ghost use Rattle.fragment_run.specs.Words.{Given, begins_with_dash, has_equals_sign, is_flag, is_in_table, joined, meets, options_of, texts_of, value_in, values_of};
-ghost use Rattle.fragment_run.specs.inside.Words.{IsFound, is_of_form, need_of, rows_of};
+ghost use Rattle.fragment_run.specs.Words.{Given, begins_with_dash, has_equals_sign, is_flag, is_flag_need, is_in_table, joined, meets, options_of, texts_of, value_in, values_of};
+ghost use Rattle.fragment_run.specs.inside.Words.{IsFound, given_of, is_of_form, need_of, rows_of, value_under};
 
 /// How an option stands in a command.
 #[derive(Clone, Copy)]
@@ -46,9 +46,20 @@ struct NextOption<'a> {
 }
 
 impl Need {
+    /// Whether the option stands without a value.
+    fn is_flag(self) -> bool
+        ensures { result ≡ is_flag_need (need_of self) }
+    {
+        match self {
+            Need::Required | Need::Optional => false,
+            Need::Flag => true,
+        }
+    }
+
     /// Whether what is found of an option is what the command needs.
     fn is_met(self, found: Found) -> bool
-        ensures { (values : List (Option (List ℕ))) → IsFound found.entry values → result ≡ meets (need_of self) values }
+        ensures { (values : List (Option (List ℕ))) → IsFound found.entry values
+            → result ≡ meets (need_of self) values }
     {
         match (self, found) {
             (Need::Required, Found::Value(_)) => true,
@@ -60,6 +71,18 @@ impl Need {
 }
 
 impl<'a> Found<'a> {
+    /// What is found of an option of this name behind one option more.
+    fn with(self, next: &NextOption<'a>, name: &str) -> Found<'a>
+        ensures { (values : List (Option (List ℕ))) → IsFound self.entry values
+            → IsFound result (values ++ value_under name.now (given_of next.now)) }
+    {
+        if next.name == name {
+            self.and(next.value)
+        } else {
+            self
+        }
+    }
+
     /// What is found where this is given once more.
     fn and(self, value: Option<&'a str>) -> Found<'a>
         ensures { (values : List (Option (List ℕ))) → IsFound self.entry values
@@ -79,15 +102,30 @@ impl<'a> Found<'a> {
 pub fn is_of_form(table: &[OptionRow], words: &[String]) -> bool
     ensures { result ≡ is_of_form (rows_of table.now) (texts_of words.now) }
 {
-    if !are_known(table, words) {
-        return false;
-    }
+    let known = are_known(table, words);
+    let met = are_met(table, words);
+    known && met
+}
+
+/// Whether words give for each option of a command what it needs.
+fn are_met(table: &[OptionRow], words: &[String]) -> bool
+    ensures { (options : List Given) → options_of (rows_of table.now) (texts_of words.now) ≡ Some options
+        → result ≡ list_all (λ row. meets row.need (values_of row.name options)) (rows_of table.now) }
+{
     for row in table {
-        if !row.need.is_met(find_option(table, words, row.name)) {
+        if !is_row_met(table, words, row.name, row.need) {
             return false;
         }
     }
     true
+}
+
+/// Whether words give for an option what a command needs of it.
+fn is_row_met(table: &[OptionRow], words: &[String], name: &str, need: Need) -> bool
+    ensures { (options : List Given) → options_of (rows_of table.now) (texts_of words.now) ≡ Some options
+        → result ≡ meets (need_of need) (values_of name.now options) }
+{
+    need.is_met(find_option(table, words, name))
 }
 
 /// The value that words of the form of a command's options give for one of them.
@@ -131,9 +169,7 @@ fn find_option<'a>(table: &[OptionRow], words: &'a [String], name: &str) -> Foun
         let Some(next) = next_option(table, word.as_str(), later) else {
             return Found::Nothing;
         };
-        if next.name == name {
-            found = found.and(next.value);
-        }
+        found = found.with(&next, name);
         rest = next.behind;
     }
     found
@@ -147,7 +183,7 @@ fn next_option<'a>(
 ) -> Option<NextOption<'a>>
     ensures options { MatchOption result (options_of (rows_of table.now) (word.now ∷ texts_of later.now) ≡ None)
         (λ next. options_of (rows_of table.now) (word.now ∷ texts_of later.now)
-        ≡ option_map (λ options. record { name = next.name.now; value = option_copied next.value } ∷ options)
+        ≡ option_map (λ options. given_of next ∷ options)
         (options_of (rows_of table.now) (texts_of next.behind.now))) }
     ensures shorter { IfSome result (λ next. length next.behind.now ≤ length later.now) }
 {
@@ -213,9 +249,68 @@ fn is_flag(table: &[OptionRow], word: &str) -> bool
     ensures { result ≡ is_flag (rows_of table.now) word.now }
 {
     for row in table {
-        if row.name == word && matches!(row.need, Need::Flag) {
+        if row.name == word && row.need.is_flag() {
             return true;
         }
     }
     false
+}
+
+#[cfg(test)]
+mod tests {
+    use super::{Need, OptionRow, is_of_form, value_of};
+    use std::alloc::{AllocError, Global};
+    use std::test::Fail;
+
+    const TABLE: [OptionRow; 3] = [
+        OptionRow {
+            name: "--in",
+            need: Need::Required,
+        },
+        OptionRow {
+            name: "--out",
+            need: Need::Optional,
+        },
+        OptionRow {
+            name: "--json",
+            need: Need::Flag,
+        },
+    ];
+
+    // Words with a space between, and whether they are of the form of these options.
+    const LINES: [(&str, bool); 12] = [
+        ("--in a", true),
+        ("--in=a --out b", true),
+        ("--json --in a", true),
+        ("--in a --json", true),
+        ("--in a --json --out=b", true),
+        ("--json", false),
+        ("--in a --json --json", false),
+        ("--in a --json b", false),
+        ("--in a --json=b", false),
+        ("--in --json", false),
+        ("--in a --in b", false),
+        ("--in a --to b", false),
+    ];
+
+    fn words_of(alloc: Global, line: &str) -> Result<Vec<String>, AllocError> {
+        let mut words = Vec::new(alloc);
+        for word in line.split(' ') {
+            words.push(String::from_str(alloc, word)?)?;
+        }
+        Ok(words)
+    }
+
+    #[test]
+    fn options_without_a_value_take_none(rt: HostRuntime) -> Result<(), Fail> {
+        for (line, right) in LINES {
+            let words = words_of(rt.alloc(), line)?;
+            assert_eq!(rt; is_of_form(&TABLE, &words), right, "of {line}");
+            if right {
+                assert_eq!(rt; value_of(&TABLE, &words, "--in"), Some("a"));
+                assert!(rt; value_of(&TABLE, &words, "--json").is_none());
+            }
+        }
+        Ok(())
+    }
 }

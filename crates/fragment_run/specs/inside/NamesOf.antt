@@ -1,5 +1,4 @@
 -- What orders and tables that the code has stand for.
-use Rattle.std.specs.Prelude.{ℕ, List, map}
 use Rattle.std.specs.Option.{option_copied}
 use Rattle.fragment_run.specs.declared.orders.ListNames.{ListNames as NamesRead}
 use Rattle.fragment_run.specs.declared.orders.Order.{Order as OrderRead}

@@ -9,7 +9,8 @@ use Rattle.fragment_run.specs.declared.status.Status.TheVariants.{Memory, Profil
 
 -- a profile that was taken is the one that its text gives, or the default one
 abbrev pub IsTaken : (List ℕ → Option (List ℕ)) → Option (List ℕ) → ProfileValue → Type 0
-IsTaken gives name profile = (outcome : Result ProfileValue ProfileFault) → outcome_of gives name ≡ Some outcome → outcome ≡ Ok profile
+IsTaken gives name profile =
+    (outcome : Result ProfileValue ProfileFault) → outcome_of gives name ≡ Some outcome → outcome ≡ Ok profile
 
 -- what a run answers where no profile was read
 abbrev pub refusal_of : ProfileFault → Status

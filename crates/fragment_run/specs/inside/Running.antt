@@ -1,7 +1,6 @@
 -- What holds of a run between its steps, and where a step ends it.
-use Rattle.std.specs.Prelude.{◌≡◌, ◌≢◌, ◌≤◌, ◌++◌, ◌⊎◌, ℕ, false, List, [], ◌∷◌, length, Option, Some, Result, Ok, Err, IfSome}
+use Rattle.std.specs.Prelude.{◌≡◌, ◌≤◌, ◌++◌, ◌⊎◌, ℕ, false, List, length, Option, Some, Result, Ok, Err, IfSome}
 use Rattle.frag_io.specs.declared.desk.Slot.{Slot}
-use Rattle.frag_io.specs.declared.desk.Slot.TheVariants.{Profile}
 use Rattle.frag_io.specs.declared.desk.DeskFault.{DeskFault}
 use Rattle.frag_io.specs.declared.desk.DeskFault.TheVariants.{Failed, OutOfMemory}
 use Rattle.frag_io.specs.DeskState.{DeskState}
@@ -16,7 +15,8 @@ use Rattle.fragment_run.specs.declared.status.Status.TheVariants.{Done, Memory, 
 -- what was read of a text and what is left make it up, and no more than the limit was read
 abbrev pub IsWithinLimit : Slot → List ℕ → Option (List ℕ) → Type 0
 IsWithinLimit slot text left =
-    (read : List ℕ) × (rest : List ℕ) × (left ≡ Some rest) × (text ≡ read ++ rest) × (length read ≤ greatest_text_of slot)
+    (read : List ℕ) × (rest : List ℕ) × (left ≡ Some rest) × (text ≡ read ++ rest)
+    × (length read ≤ greatest_text_of slot)
 
 -- A run has made these begins, and has read no text past its limit; each name gives what it gave, and no count fell.
 pub record Runs (done : List Begin) (before now : DeskState) : Type 0 where

@@ -3,4 +3,5 @@ use Rattle.fragment_run.specs.declared.settings.RunSettings.{RunSettings}
 use Rattle.fragment_run.specs.RunSettings.{RunSettingsValue}
 
 abbrev pub settings_value_of : {X : Type 0} {F : X → Type 0} {g : _} → RunSettings X F g → RunSettingsValue
-settings_value_of settings = record { choice = settings.choice; limits = settings.limits; rules = settings.sieve.rules.items }
+settings_value_of settings =
+    record { choice = settings.choice; limits = settings.limits; rules = settings.sieve.rules.items }

@@ -1,12 +1,14 @@
 -- What the rows of a table and what is found among words stand for.
-use Rattle.std.specs.Prelude.{◌≡◌, ℕ, List, [], ◌∷◌, map, Option, Some, None, is_some, Bool}
+use Rattle.std.specs.Prelude.{◌≡◌, ℕ, List, [], ◌∷◌, map, Option, Some, None, is_some, Bool, if◌then◌else◌}
 use Rattle.std.specs.Option.{option_copied}
+use Rattle.std.specs.Str.{bytes_eq}
 use Rattle.fragment_run.specs.declared.words.Need.{Need as NeedRead}
 use Rattle.fragment_run.specs.declared.words.Need.TheVariants as Read
 use Rattle.fragment_run.specs.declared.words.OptionRow.{OptionRow as RowRead}
+use Rattle.fragment_run.specs.declared.words.NextOption.{NextOption}
 use Rattle.fragment_run.specs.declared.words.Found.{Found}
 use Rattle.fragment_run.specs.declared.words.Found.TheVariants.{Nothing, Bare, Value, Twice}
-use Rattle.fragment_run.specs.Words.{Need, OptionRow, required, optional, flag, form_of}
+use Rattle.fragment_run.specs.Words.{Given, Need, OptionRow, required, optional, flag, form_of}
 
 abbrev pub need_of : NeedRead → Need
 need_of Read.Required = required
@@ -18,6 +20,14 @@ row_of row = record { name = row.name.now; need = need_of row.need }
 
 abbrev pub rows_of : List RowRead → List OptionRow
 rows_of rows = map row_of rows
+
+-- the option that a step over the words finds
+abbrev pub given_of : NextOption → Given
+given_of next = record { name = next.name.now; value = option_copied next.value }
+
+-- what an option gives to this name
+abbrev pub value_under : List ℕ → Given → List (Option (List ℕ))
+value_under name option = if bytes_eq option.name name then option.value ∷ [] else []
 
 -- the words are of the form of these options
 abbrev pub is_of_form : List OptionRow → List (List ℕ) → Bool

@@ -40,11 +40,12 @@ list_meaning settings text = record {
 abbrev pub IsFormedFirst : RunSettingsValue → List ℕ → Option (List ℕ) → Class → Type 0
 IsFormedFirst settings text report (read_fault slot) = IsEmpty report
 IsFormedFirst settings text report (too_long slot) = IsEmpty report
-IsFormedFirst settings text report (write_fault slot) = (length text ≤ greatest_text_of Spectra) × IfSome report (IsReportPart settings text)
+IsFormedFirst settings text report (write_fault slot) =
+    (length text ≤ greatest_text_of Spectra) × IfSome report (IsReportPart settings text)
 IsFormedFirst settings text report class = ⊤
 
--- What a list owes to a text that its desk tells: its answer is right, what it leaves early is a first part of the right report, and
--- it forms the report first.
+-- What a list owes to a text that its desk tells: its answer is right, what it leaves early is a first part of the
+-- right report, and it forms the report first.
 pub record ListsText (settings : RunSettingsValue) (text : List ℕ) (now : DeskState) (status : Status) : Type 0 where
   pub leaves : Leaves (list_meaning settings text) now status
   pub formed_first : IsFormedFirst settings text (now.written Report) (class_of status)

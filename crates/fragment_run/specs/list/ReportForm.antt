@@ -17,7 +17,9 @@ outline_lines (skipped reason) = skip_line reason
 outline_lines (listed lists) = lists_lines lists
 
 abbrev pub section_lines : Section → List ℕ
-section_lines section = codes "spectrum " ++ decimal section.line ++ codes " " ++ escaped section.title ++ codes "\n" ++ outline_lines section.outline ++ codes "done\n"
+section_lines section =
+    codes "spectrum " ++ decimal section.line ++ codes " " ++ escaped section.title ++ codes "\n"
+    ++ outline_lines section.outline ++ codes "done\n"
 
 -- the ending tells the line that refused the text, where there is one
 abbrev pub ending_line : Option MgfFault → List ℕ

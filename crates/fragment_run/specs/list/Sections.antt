@@ -18,18 +18,21 @@ pub record IsSection (settings : RunSettingsValue) (spectrum : SpectrumValue) (s
 -- the right sections for some spectra, one each, in order
 abbrev pub AreSections : RunSettingsValue → List SpectrumValue → List Section → Type 0
 AreSections settings [] [] = ⊤
-AreSections settings (spectrum ∷ spectra) (section ∷ sections) = IsSection settings spectrum section × AreSections settings spectra sections
+AreSections settings (spectrum ∷ spectra) (section ∷ sections) =
+    IsSection settings spectrum section × AreSections settings spectra sections
 AreSections settings spectra sections = ⊥
 
 -- the report of a text that is read with this fault: the right section of each of its spectra, and the ending
-pub record IsReport (settings : RunSettingsValue) (text : List ℕ) (fault : Option MgfFault) (bytes : List ℕ) : Type 0 where
+pub record IsReport (settings : RunSettingsValue) (text : List ℕ) (fault : Option MgfFault) (bytes : List ℕ)
+    : Type 0 where
   pub spectra : List SpectrumValue
   pub reads : Reads text spectra fault
   pub sections : List Section
   pub are_sections : AreSections settings spectra sections
   pub form : bytes ≡ flat_map section_lines sections ++ ending_line fault
 
--- A first part of the report of a text: of the right sections of its first spectra, and of the ending where these are all.
+-- A first part of the report of a text: of the right sections of its first spectra, and of the ending where these are
+-- all.
 pub record IsReportPart (settings : RunSettingsValue) (text bytes : List ℕ) : Type 0 where
   pub spectra : List SpectrumValue
   pub fault : Option MgfFault
@@ -37,4 +40,5 @@ pub record IsReportPart (settings : RunSettingsValue) (text bytes : List ℕ) : 
   pub sections : List Section
   pub are_sections : AreSections settings (take (length sections) spectra) sections
   pub rest : List ℕ
-  pub form : flat_map section_lines sections ++ (if nat_lt (length sections) (length spectra) then [] else ending_line fault) ≡ bytes ++ rest
+  pub form : flat_map section_lines sections
+      ++ (if nat_lt (length sections) (length spectra) then [] else ending_line fault) ≡ bytes ++ rest

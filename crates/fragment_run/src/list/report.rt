@@ -55,7 +55,8 @@ fn push_sections(
     reader: &mut Reader,
     settings: &RunSettings,
 ) -> Result<(), AllocError>
-    ensures { OnOk result ((sections : List Section) × AreSections (settings_value_of settings.now) reader.old.waiting sections
+    ensures { OnOk result ((sections : List Section)
+        × AreSections (settings_value_of settings.now) reader.old.waiting sections
         × (report.new.items ≡ report.old.items ++ flat_map section_lines sections)) }
 {
     while let Some(spectrum) = reader.next() {

@@ -22,7 +22,8 @@ pub fn push_section(
     spectrum: &Spectrum,
     settings: &RunSettings,
 ) -> Result<(), AllocError>
-    ensures { OnOk result ((section : Section) × IsSection (settings_value_of settings.now) spectrum.now section × (text.new.items ≡ text.old.items ++ section_lines section)) }
+    ensures { OnOk result ((section : Section) × IsSection (settings_value_of settings.now) spectrum.now section
+        × (text.new.items ≡ text.old.items ++ section_lines section)) }
 {
     let outline = read_outline(alloc, spectrum, settings)?;
     push_head(alloc, text, spectrum.line, spectrum.title.items())?;
@@ -32,13 +33,9 @@ pub fn push_section(
 }
 
 /// Appends the line that begins a section.
-fn push_head(
-    alloc: Global,
-    text: &mut Vec<u8>,
-    line: u32,
-    title: &[u8],
-) -> Result<(), AllocError>
-    ensures { OnOk result (text.new.items ≡ text.old.items ++ codes "spectrum " ++ decimal line ++ codes " " ++ escaped title.now ++ codes "\n") }
+fn push_head(alloc: Global, text: &mut Vec<u8>, line: u32, title: &[u8]) -> Result<(), AllocError>
+    ensures { OnOk result (text.new.items
+        ≡ text.old.items ++ codes "spectrum " ++ decimal line ++ codes " " ++ escaped title.now ++ codes "\n") }
 {
     text.extend_from_slice(b"spectrum ")?;
     push_number(alloc, text, u64::from(line))?;

@@ -3,7 +3,7 @@ use Rattle.std.specs.List.{All}
 use Rattle.mgf_reader.specs.Spectrum.{PeakValue}
 use Rattle.adducts.specs.Selected.{LiesBelow}
 use Rattle.fragment_run.proofs.Below.{less_from_below}
-use Rattle.fragment_run.proofs.section.read_body.Goals as goal
+use Rattle.fragment_run.proofs.outline.read_outline.Goals as goal
 
 pub explain-requires-clause-below : goal.explain-requires-clause-below
 explain-requires-clause-below g c k d h =

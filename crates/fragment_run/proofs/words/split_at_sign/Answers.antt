@@ -1,5 +1,5 @@
 use Rattle.std.proofs.Common.{lit<}
-use Rattle.fragment_run.proofs.OptionWords.{split-parts}
+use Rattle.fragment_run.proofs.OptionsOf.{split-parts}
 use Rattle.fragment_run.proofs.words.split_at_sign.Goals as goal
 
 pub returns : goal.returns

@@ -1,6 +1,6 @@
 use Rattle.std.proofs.Common.{ap, length, arith}
 use Rattle.fragment_run.proofs.Reports.{pushed_none, pushed_more, pushed_all}
-use Rattle.fragment_run.proofs.report.push_sections.Goals as goal
+use Rattle.fragment_run.proofs.list.report.push_sections.Goals as goal
 
 pub loop-spectrum-init : goal.loop-spectrum-init
 loop-spectrum-init g c = pushed_none _ _ _

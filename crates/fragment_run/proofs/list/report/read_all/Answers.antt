@@ -1,6 +1,6 @@
 use Rattle.std.proofs.Common.{Some, None}
 use Rattle.fragment_run.proofs.Reports.{read_to_end}
-use Rattle.fragment_run.proofs.report.read_all.Goals as goal
+use Rattle.fragment_run.proofs.list.report.read_all.Goals as goal
 
 pub returns-in-Ok : goal.returns-in-Ok
 returns-in-Ok c = read_to_end c.args.reader.now c.feed-fed.new.self c.end.new.self c.args.text.now c.feed-fed.result c.end.result None
