@@ -9,8 +9,8 @@ ghost use Rattle.score_tables.specs.Scores.{error_score_of, loss_score_of, peak_
 ghost use Rattle.score_tables.specs.Tables.{IsScores, greatest_score, in_formula_order};
 
 use crate::default::{
-    DEFAULT_ERROR, DEFAULT_IMPLAUSIBLE, DEFAULT_INTENSITY, DEFAULT_NAMED, DEFAULT_NEGATIVE,
-    DEFAULT_RADICAL, DEFAULT_SIZE, losses_of,
+    DEFAULT_NEGATIVE, DEFAULT_RADICAL, DEFAULT_SIZE, default_error, default_implausible,
+    default_intensity, default_named,
 };
 use crate::table::{at_least_score, at_most_score, share, sort_losses, table_score};
 use element_table::Formula;
@@ -65,10 +65,10 @@ impl Scores {
         ensures { IfOk result (λ scores. scores ≡ default_scores) }
     {
         Ok(Scores::new(
-            Vec::from_slice(alloc, &DEFAULT_INTENSITY)?,
-            Vec::from_slice(alloc, &DEFAULT_ERROR)?,
-            losses_of(alloc, &DEFAULT_NAMED)?,
-            losses_of(alloc, &DEFAULT_IMPLAUSIBLE)?,
+            default_intensity(alloc)?,
+            default_error(alloc)?,
+            default_named(alloc)?,
+            default_implausible(alloc)?,
             DEFAULT_RADICAL,
             DEFAULT_NEGATIVE,
             DEFAULT_SIZE,
