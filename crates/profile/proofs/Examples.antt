@@ -51,6 +51,7 @@ values : profile_of (codes "ppm = 5\nelements = {Si = 3}\nrules = [{constant = 1
   limits = replicate 10 0 ++ 3 ∷ replicate 5 0;
   rules = record { coefficients = negsuc 1 ∷ replicate 15 (pos 0); constant = pos 0; parity = even } ∷ [];
   neutral_rules = record { coefficients = replicate 16 (pos 0); constant = pos 1; parity = any } ∷ [];
+  scores = default_profile_value.scores;
 })
 unfolding toml_on_literals is_utf8 chars digits element_numbers
 values = refl

@@ -3,6 +3,8 @@ use Rattle.std.specs.Prelude.{◌≤◌, ◌+◌, ◌++◌, ℕ, List, [], ◌�
 use Rattle.std.specs.List.{list_any}
 use Rattle.element_table.specs.Formula.{IsFormula}
 use Rattle.element_table.specs.Rule.{IsRule, Rule}
+use Rattle.score_tables.specs.Default.{default_scores}
+use Rattle.score_tables.specs.Tables.{ScoresValue}
 
 pub record ProfileValue : Type 0 where
   pub ppm : ℕ
@@ -12,6 +14,7 @@ pub record ProfileValue : Type 0 where
   pub limits : List ℕ
   pub rules : List Rule
   pub neutral_rules : List Rule
+  pub scores : ScoresValue
 
 -- how many rules a text may have, those for candidates among them
 abbrev pub greatest_rules : ℕ
@@ -35,4 +38,4 @@ abbrev pub default_limits : List ℕ
 default_limits = (200 ∷ 100 ∷ 20 ∷ 40 ∷ 3 ∷ 3 ∷ []) ++ replicate 10 0
 
 abbrev pub default_profile_value : ProfileValue
-default_profile_value = record { ppm = 10; abs = 10000; peaks = 12; budget = 200; limits = default_limits; rules = []; neutral_rules = [] }
+default_profile_value = record { ppm = 10; abs = 10000; peaks = 12; budget = 200; limits = default_limits; rules = []; neutral_rules = []; scores = default_scores }

@@ -54,4 +54,5 @@ profile_value_of members = record {
   limits = option_map_or limits_of (option_and_then as_table (get_member (codes "elements") members)) default_profile_value.limits;
   rules = rules_said false (items_at members (codes "rules"));
   neutral_rules = rules_said true (items_at members (codes "rules"));
+  scores = default_profile_value.scores;
 }

@@ -3,6 +3,7 @@ ghost use Rattle.std.specs.Prelude.{◌≡◌, IfOk};
 ghost use Rattle.profile.specs.Profile.{default_profile_value, default_limits};
 
 use crate::limits::Limits;
+use score_tables::Scores;
 use std::alloc::{AllocError, Global};
 use std::marker::Model;
 use valence_filter::Rule;
@@ -53,7 +54,7 @@ impl Rules {
 /// What a run is done with: half the width of a window in parts per million of the m/z, 0 to 100, and its least value in
 /// units of 10^-7 Da, 0 to 2,000,000; the greatest number of selected peaks, 1 to 12; the budget of splits, 0 to 10,000; the
 /// greatest count of each element, one of them positive; the rules of the profile text that every listed formula has to pass,
-/// and those that candidates alone have to pass.
+/// and those that candidates alone have to pass; and the tables of scores.
 #[derive(Debug, Drop)]
 pub struct Profile {
     pub ppm: u32,
@@ -63,6 +64,7 @@ pub struct Profile {
     pub limits: Limits,
     pub rules: Rules,
     pub neutral_rules: Rules,
+    pub scores: Scores,
 }
 
 impl Model for Profile {
@@ -70,9 +72,9 @@ impl Model for Profile {
 
     ghost Value = { ProfileValue };
 
-    ghost view = { λ profile. record { ppm = profile.ppm; abs = profile.abs; peaks = profile.peaks; budget = profile.budget; limits = profile.limits; rules = profile.rules; neutral_rules = profile.neutral_rules } };
+    ghost view = { λ profile. record { ppm = profile.ppm; abs = profile.abs; peaks = profile.peaks; budget = profile.budget; limits = profile.limits; rules = profile.rules; neutral_rules = profile.neutral_rules; scores = profile.scores } };
 
-    ghost invariant = { λ profile. IsProfile (record { ppm = profile.ppm; abs = profile.abs; peaks = profile.peaks; budget = profile.budget; limits = profile.limits; rules = profile.rules; neutral_rules = profile.neutral_rules }) };
+    ghost invariant = { λ profile. IsProfile (record { ppm = profile.ppm; abs = profile.abs; peaks = profile.peaks; budget = profile.budget; limits = profile.limits; rules = profile.rules; neutral_rules = profile.neutral_rules; scores = profile.scores }) };
 }
 
 /// The limits of the default profile: C 100, H 200, N 20, O 40, P 3 and S 3.
@@ -83,7 +85,7 @@ pub(crate) fn default_limits() -> Limits
 }
 
 /// The profile that counts where no text gives another: 10 parts per million and 10,000 units, 12 peaks, a budget of 200, the
-/// limits C 100, H 200, N 20, O 40, P 3 and S 3, and no rules.
+/// limits C 100, H 200, N 20, O 40, P 3 and S 3, no rules, and the default tables of scores.
 pub fn default_profile(alloc: Global) -> Result<Profile, AllocError>
     ensures { IfOk result (λ profile. profile ≡ default_profile_value) }
 {
@@ -95,5 +97,6 @@ pub fn default_profile(alloc: Global) -> Result<Profile, AllocError>
         limits: default_limits(),
         rules: Rules::of(Vec::new(alloc)),
         neutral_rules: Rules::of(Vec::new(alloc)),
+        scores: Scores::default_tables(alloc)?,
     })
 }

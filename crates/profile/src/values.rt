@@ -13,6 +13,7 @@ use crate::profile::{
 };
 use crate::table::{array_at, element_number, number_at, says, table_at};
 use element_table::FORMULA_PLACES;
+use score_tables::Scores;
 use std::alloc::{AllocError, Global};
 use toml::value::Array;
 use toml::{Table, Value};
@@ -31,6 +32,7 @@ pub(crate) fn profile_in(alloc: Global, table: &Table) -> Result<Profile, AllocE
         limits: limits_in(table),
         rules: rules_in(alloc, table, false)?,
         neutral_rules: rules_in(alloc, table, true)?,
+        scores: Scores::default_tables(alloc)?,
     })
 }
 
