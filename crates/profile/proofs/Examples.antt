@@ -2,6 +2,7 @@
 use Rattle.std.proofs.Common.{◌≡◌, pos, negsuc, codes, [], ◌∷◌, ◌++◌, replicate, Ok, Err, refl}
 use Rattle.std.specs.Fmt.{digits}
 use Rattle.std.specs.Str.{is_utf8, chars}
+use Rattle.element_table.specs.FormulaReading.{formula_of}
 use Rattle.element_table.specs.Rule.{any, even}
 use Rattle.toml.proofs.OnLiterals.{toml_on_literals}
 use Rattle.profile.specs.Profile.{default_profile_value}
@@ -55,3 +56,12 @@ values : profile_of (codes "ppm = 5\nelements = {Si = 3}\nrules = [{constant = 1
 })
 unfolding toml_on_literals is_utf8 chars digits element_numbers
 values = refl
+
+-- a loss under two spellings
+doubled : profile_of (codes "scores.named = {H2O = 1, OH2 = 1}") ≡ Err (BadValue (codes "scores.named.OH2"))
+unfolding toml_on_literals is_utf8 chars formula_of
+doubled = refl
+
+pair_out_of_range : profile_of (codes "scores.intensity = [[1001, 1], [0, 2001]]") ≡ Err (OverLimit (codes "scores.intensity.0.0") (pos 1001))
+unfolding toml_on_literals is_utf8 chars digits
+pair_out_of_range = refl

@@ -9,4 +9,5 @@ pub mod RuleLaws
 pub mod SettingLaws
 pub mod AnswerLaws
 pub mod Examples
+pub mod ScoreLaws
 pub mod ProfileLaws

@@ -24,7 +24,7 @@ pub get_or-limits_of : (entries : Members) (place : ℕ) → get_or (limits_of e
 get_or-limits_of entries place = get_or-map as_count (element_numbers entries) place (pos 0)
 
 pub limit_in_range : (entries : Members) (place : ℕ) → IsFine limits entries → (pos 0 ≤ℤ get_or (element_numbers entries) place (pos 0)) × (get_or (element_numbers entries) place (pos 0) ≤ℤ pos 1999)
-limit_in_range entries place fine = element_in_range limits entries (pos 0) (pos 1999) place fine (λ key. refl) (omega arith) (omega arith)
+limit_in_range entries place fine = element_in_range limits entries (pos 0) (pos 1999) place fine (λ known key. refl) (omega arith) (omega arith)
 
 -- an integer that is not negative is its count
 pub pos-as_count : (z : ℤ) → pos 0 ≤ℤ z → pos (as_count z) ≡ z
@@ -59,7 +59,7 @@ pub some_limit : (numbers : List ℤ) → list_any (int_lt (pos 0)) numbers ≡ 
 some_limit [] = refl
 some_limit (z ∷ numbers) = rw (positive_count z, some_limit numbers)
 
-kind_right : (kind : Bool) (fault : ProfileFault) → (if kind then None else Some fault) ≡ None → kind ≡ true
+pub kind_right : (kind : Bool) (fault : ProfileFault) → (if kind then None else Some fault) ≡ None → kind ≡ true
 kind_right true fault none = refl
 kind_right false fault none = cc
 

@@ -25,14 +25,14 @@ coefficients_near : (entries : Members) (found : Option Members) (place : ℕ) �
     → IsNearZero 1000 (get_or (element_numbers (unwrap_or found no_members)) place (pos 0))
 coefficients_near entries None place fine is = rw element_numbers-none (noughts_near place)
 coefficients_near entries (Some inner) place fine is =
-    element_in_range coefficients inner (negsuc 999) (pos 1000) place (fine_table rule entries (codes "coefficients") inner fine refl is).1 (λ key. refl) (omega arith) (omega arith)
+    element_in_range coefficients inner (negsuc 999) (pos 1000) place (fine_table rule coefficients entries (codes "coefficients") inner fine (λ known. refl) refl is).1 (λ known key. refl) (omega arith) (omega arith)
 
 -- what a table of which nothing is refused gives is a rule
 pub rule_of_is_rule : (entries : Members) → IsFine rule entries → IsRule (rule_of entries)
 rule_of_is_rule entries fine = record {
   places = length-element_numbers (table_at entries (codes "coefficients"));
   coefficients = λ place. coefficients_near entries (option_and_then as_table (get_member (codes "coefficients") entries)) place fine refl;
-  constant = number_in_range rule entries (codes "constant") (negsuc 999999) (pos 1000000) (pos 0) fine refl (omega arith) (omega arith);
+  constant = number_in_range rule entries (codes "constant") (negsuc 999999) (pos 1000000) (pos 0) fine (λ known is. refl) (omega arith) (omega arith);
 }
 
 kept_or_not : (kept : Bool) (first : Members) (tables : List Members) → map rule_of (if kept then first ∷ tables else tables) ≡ map rule_of (if kept then first ∷ [] else []) ++ map rule_of tables
@@ -54,10 +54,10 @@ pub same_rule : (whole : Rule) (numbers : List ℤ) (constant : ℤ) (parity : P
 same_rule whole numbers constant parity a b d = rw (a, b, d)
 
 -- what a text gives are rules
-pub all_rules : (neutral : Bool) (items : Items) → AreFine items → All IsRule (rules_said neutral items)
+pub all_rules : (neutral : Bool) (items : Items) → AreFine rules items → All IsRule (rules_said neutral items)
 all_rules neutral no_items fine = All-nil IsRule
 all_rules neutral (item value items) fine =
-    let rest = all_rules neutral items (fine_others value items fine) in
+    let rest = all_rules neutral items (fine_others rules value items fine) in
     rw (rules_said-first neutral value items) (All-append IsRule (rules_said neutral (alone value)) (rules_said neutral items) (first_rule (as_table value) refl) rest)
   where
     kept_rule : (kept : Bool) (entries : Members) → IsRule (rule_of entries) → All IsRule (map rule_of (if kept then entries ∷ [] else []))

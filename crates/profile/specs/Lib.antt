@@ -1,6 +1,8 @@
 pub mod Profile
 pub mod Table
 pub mod Form
+pub mod Losses
+pub mod Counted
 pub mod Places
 pub mod Refusal
 pub mod Values

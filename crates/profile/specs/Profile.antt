@@ -4,7 +4,7 @@ use Rattle.std.specs.List.{list_any}
 use Rattle.element_table.specs.Formula.{IsFormula}
 use Rattle.element_table.specs.Rule.{IsRule, Rule}
 use Rattle.score_tables.specs.Default.{default_scores}
-use Rattle.score_tables.specs.Tables.{ScoresValue}
+use Rattle.score_tables.specs.Tables.{IsScores, ScoresValue}
 
 pub record ProfileValue : Type 0 where
   pub ppm : ℕ
@@ -20,7 +20,8 @@ pub record ProfileValue : Type 0 where
 abbrev pub greatest_rules : ℕ
 greatest_rules = 32
 
--- what every profile is: its numbers are in their ranges, some element may stand in a formula, and each rule is one
+-- what every profile is: its numbers are in their ranges, some element may stand in a formula, each rule is one, and so are
+-- the tables of scores
 pub record IsProfile (profile : ProfileValue) : Type 0 where
   pub ppm : profile.ppm ≤ 100
   pub abs : profile.abs ≤ 2000000
@@ -30,6 +31,7 @@ pub record IsProfile (profile : ProfileValue) : Type 0 where
   pub limits : IsFormula profile.limits
   pub rules : All IsRule profile.rules
   pub neutral_rules : All IsRule profile.neutral_rules
+  pub scores : IsScores profile.scores
   pub few_rules : length profile.rules + length profile.neutral_rules ≤ greatest_rules
   pub some_element : IsTrue (list_any (nat_lt 0) profile.limits)
 

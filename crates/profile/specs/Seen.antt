@@ -14,6 +14,13 @@ form_seen Known.Elements = spec.limits
 form_seen Known.Coefficients = spec.coefficients
 form_seen Known.Rules = spec.rules
 form_seen Known.Rule = spec.rule
+form_seen Known.Scores = spec.scores
+form_seen Known.Intensities = spec.intensities
+form_seen Known.Errors = spec.errors
+form_seen Known.Pair = spec.pair
+form_seen Known.NamedLosses = spec.named_losses
+form_seen Known.ImplausibleLosses = spec.implausible_losses
+form_seen (Known.Loss free) = spec.loss free
 form_seen Known.Unknown = spec.unknown
 
 -- the keys of a table of the program

@@ -1,8 +1,13 @@
 -- The profile that a table gives which is not refused. What the table does not name is as in the default profile.
-use Rattle.std.specs.Prelude.{ℕ, ℤ, pos, negsuc, Bool, true, false, not, List, [], ◌∷◌, map, filter, Option, Some, None, option_and_then, codes, if◌then◌else◌}
+use Rattle.std.specs.Prelude.{ℕ, ℤ, pos, negsuc, Bool, true, false, not, List, [], ◌∷◌, map, filter, Option, Some, None, option_and_then, unwrap_or, codes, if◌then◌else◌}
 use Rattle.std.specs.Option.{option_map_or}
+use Rattle.element_table.specs.Formula.{empty_formula}
 use Rattle.element_table.specs.Rule.{Rule, Parity, any, even, odd}
-use Rattle.toml.specs.Data.{as_table, get_member, Items, no_items, item, Members}
+use Rattle.score_tables.specs.Default.{default_tables}
+use Rattle.score_tables.specs.Tables.{LossTable, ScoresValue, ShareTable, in_formula_order}
+use Rattle.toml.specs.Data.{Data, as_array, as_integer, as_table, get_member, Items, no_items, item, Members, no_members, member}
+use Rattle.profile.specs.Form.{bound_of, score_of}
+use Rattle.profile.specs.Losses.{key_formula}
 use Rattle.profile.specs.Profile.{ProfileValue, default_profile_value}
 use Rattle.profile.specs.Table.{number_at, says, table_at, items_at, element_numbers}
 
@@ -45,6 +50,34 @@ is_kept false rule = not (is_neutral rule)
 abbrev pub rules_said : Bool → Items → List Rule
 rules_said neutral items = map rule_of (filter (is_kept neutral) (tables_in items))
 
+-- the bound and the score of a pair
+abbrev pub pair_said : Data → ℕ × ℤ
+pair_said value = (as_count (bound_of value), score_of value)
+
+abbrev pub shares_said : Items → ShareTable
+shares_said no_items = []
+shares_said (item value items) = pair_said value ∷ shares_said items
+
+-- the loss of a key, and its score
+abbrev pub loss_said : List ℕ → Data → List ℕ × ℤ
+loss_said key value = (unwrap_or (key_formula key) empty_formula, unwrap_or (as_integer value) (pos 0))
+
+abbrev pub losses_said : Members → LossTable
+losses_said no_members = []
+losses_said (member key value members) = loss_said key value ∷ losses_said members
+
+-- the tables of a table `scores`
+abbrev pub tables_said : Members → ScoresValue
+tables_said members = record {
+  intensity = option_map_or shares_said (option_and_then as_array (get_member (codes "intensity") members)) default_tables.intensity;
+  error = option_map_or shares_said (option_and_then as_array (get_member (codes "error") members)) default_tables.error;
+  named = option_map_or losses_said (option_and_then as_table (get_member (codes "named") members)) default_tables.named;
+  implausible = option_map_or losses_said (option_and_then as_table (get_member (codes "implausible") members)) default_tables.implausible;
+  radical = number_at members (codes "radical") default_tables.radical;
+  negative = number_at members (codes "negative") default_tables.negative;
+  size = as_count (number_at members (codes "size") (pos default_tables.size));
+}
+
 abbrev pub profile_value_of : Members → ProfileValue
 profile_value_of members = record {
   ppm = as_count (number_at members (codes "ppm") (pos default_profile_value.ppm));
@@ -54,5 +87,5 @@ profile_value_of members = record {
   limits = option_map_or limits_of (option_and_then as_table (get_member (codes "elements") members)) default_profile_value.limits;
   rules = rules_said false (items_at members (codes "rules"));
   neutral_rules = rules_said true (items_at members (codes "rules"));
-  scores = default_profile_value.scores;
+  scores = in_formula_order (tables_said (table_at members (codes "scores")));
 }

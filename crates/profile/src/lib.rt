@@ -1,4 +1,4 @@
-//! The profile of a run: windows, peaks, limits and rules, read from a TOML text.
+//! The profile of a run: windows, peaks, limits, rules and scores, read from a TOML text.
 #![tactic(auto)]
 
 mod fault;
@@ -9,6 +9,7 @@ mod places;
 mod profile;
 mod reading;
 mod refusal;
+mod scores;
 mod table;
 #[cfg(test)]
 mod tests;

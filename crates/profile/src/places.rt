@@ -1,11 +1,17 @@
 //! The places of a profile text, in the order of the walk.
-ghost use Rattle.std.specs.Prelude.{◌≡◌, ◌++◌, IfOk, OnOk};
+ghost use Rattle.std.specs.Prelude.{◌≡◌, ◌++◌, [], IfOk, OnOk, option_map, codes};
+ghost use Rattle.profile.specs.Losses.{is_free, key_formula, taken_by, taken_with};
 ghost use Rattle.profile.specs.Places as spec;
-ghost use Rattle.profile.specs.Searched.{places_seen};
+ghost use Rattle.profile.specs.Form.{taken_at};
+ghost use Rattle.profile.specs.Searched.{known_seen, losses_seen, places_seen};
 ghost use Rattle.profile.specs.Seen.{form_seen};
+ghost use Rattle.profile.specs.Table as said;
 ghost use Rattle.toml.specs.View.{view, array_view, table_view};
 
 use crate::form::Form;
+use crate::table::table_at;
+use element_table::{ELEMENTS, Formula, read_formula};
+use indexmap::IndexSet;
 use std::alloc::{AllocError, Global};
 use toml::value::Array;
 use toml::{Table, Value};
@@ -18,89 +24,188 @@ pub(crate) struct Place<'a> {
     pub(crate) value: &'a Value,
 }
 
+/// What is known of the whole table while its places are laid out.
+#[derive(Drop)]
+pub(crate) struct Walk<'a> {
+    /// The elements whose symbols its keys may use.
+    elements: &'a [(&'static str, u64, u8)],
+    /// The table of the losses that it names.
+    named: Option<&'a Table>,
+}
+
 /// The places of a table.
 pub(crate) fn lay_out<'a>(alloc: Global, table: &'a Table) -> Result<Vec<Place<'a>>, AllocError>
     ensures { IfOk result (λ places. places_seen places.items ≡ spec.places_of (table_view table.now)) }
 {
+    let walk = Walk {
+        elements: &ELEMENTS,
+        named: named_losses(table),
+    };
     let mut places = Vec::new(alloc);
-    add_keys(alloc, table, Form::Whole, b"", &mut places)?;
+    add_keys(alloc, &walk, table, Form::Whole, b"", &mut places)?;
     Ok(places)
+}
+
+/// The table of the losses that a text names.
+fn named_losses<'a>(table: &'a Table) -> Option<&'a Table>
+    ensures { losses_seen result ≡ taken_by [] (said.table_at (said.table_at (table_view table.now) (codes "scores")) (codes "named")) }
+{
+    match table_at(table, "scores") {
+        Some(scores) => table_at(scores, "named"),
+        None => None,
+    }
 }
 
 /// Adds the keys of a table of some form, each with all that stands under it.
 #[cycle(walk)]
 fn add_keys<'a>(
     alloc: Global,
+    walk: &Walk<'a>,
     table: &'a Table,
     form: Form,
     before: &[u8],
     places: &mut Vec<Place<'a>>,
 ) -> Result<(), AllocError>
-    ensures { OnOk result (places_seen places.new.items ≡ places_seen places.old.items ++ spec.places_of_keys (form_seen form) before.now (table_view table.now)) }
+    ensures { OnOk result (places_seen places.new.items ≡ places_seen places.old.items
+        ++ spec.places_of_keys (known_seen walk.now) (form_seen form) before.now (table_view table.now)) }
 {
     'keys: for (key, value) in table.iter() {
+        let name = joined(alloc, before, key.as_bytes())?;
         add_place(
             alloc,
+            walk,
             value,
-            form.at(key.as_str()),
-            before,
-            key.as_bytes(),
+            form.at(walk.elements, key.as_str()),
+            name,
             places,
         )?;
     }
     Ok(())
 }
 
-/// Adds the items of an array of rules, each with all that stands under it.
+/// Adds the items of an array of some form, each with all that stands under it.
 #[cycle(walk)]
 fn add_items<'a>(
     alloc: Global,
+    walk: &Walk<'a>,
     items: &'a Array,
+    form: Form,
     before: &[u8],
     places: &mut Vec<Place<'a>>,
 ) -> Result<(), AllocError>
-    ensures { OnOk result (places_seen places.new.items ≡ places_seen places.old.items ++ spec.places_of_items before.now 0 (array_view items.now)) }
+    ensures { OnOk result (places_seen places.new.items ≡ places_seen places.old.items
+        ++ spec.places_of_items (known_seen walk.now) (form_seen form) before.now 0 (array_view items.now)) }
 {
     'items: for (number, item) in items.iter().enumerate() {
         let step = number.to_string(alloc)?;
-        add_place(alloc, item, Form::Rule, before, step.as_bytes(), places)?;
+        let name = joined(alloc, before, step.as_bytes())?;
+        add_place(alloc, walk, item, form.of_item(number), name, places)?;
     }
     Ok(())
 }
 
-/// Adds a place and all that stands under it. Its name is a step after what stands before.
+/// Adds a place of this name and all that stands under it.
 #[cycle(walk)]
 fn add_place<'a>(
     alloc: Global,
+    walk: &Walk<'a>,
     value: &'a Value,
     form: Form,
-    before: &[u8],
-    step: &[u8],
+    name: Vec<u8>,
     places: &mut Vec<Place<'a>>,
 ) -> Result<(), AllocError>
-    ensures { OnOk result (places_seen places.new.items ≡ places_seen places.old.items ++ spec.place_with (form_seen form) (before.now ++ step.now) (view value.now)) }
+    ensures { OnOk result (places_seen places.new.items ≡ places_seen places.old.items
+        ++ spec.place_with (known_seen walk.now) (form_seen form) name.items (view value.now)) }
 {
-    places.push(Place {
-        name: joined(alloc, before, step)?,
-        form,
-        value,
-    })?;
+    let under = with_point(alloc, &name)?;
+    places.push(Place { name, form, value })?;
     match value {
         Value::Table(table) => {
             if form.has_keys() {
-                let under = with_point(alloc, before, step)?;
-                add_keys(alloc, table, form, &under, places)?;
+                add_keys(alloc, walk, table, form, &under, places)?;
+            } else if let Some(taken) = taken_for(alloc, walk, form)? {
+                add_losses(alloc, table, taken, &under, places)?;
             }
         }
         Value::Array(items) => {
             if form.has_items() {
-                let under = with_point(alloc, before, step)?;
-                add_items(alloc, items, &under, places)?;
+                add_items(alloc, walk, items, form, &under, places)?;
             }
         }
         _ => {}
     }
     Ok(())
+}
+
+/// Adds the keys of a table of losses, none of which may be one that is taken.
+fn add_losses<'a>(
+    alloc: Global,
+    table: &'a Table,
+    mut taken: IndexSet<Formula>,
+    before: &[u8],
+    places: &mut Vec<Place<'a>>,
+) -> Result<(), AllocError>
+    ensures { OnOk result (places_seen places.new.items ≡ places_seen places.old.items
+        ++ spec.places_of_losses taken.keys before.now (table_view table.now)) }
+{
+    for (key, value) in table.iter() {
+        let is_free = take(&mut taken, key.as_str())?;
+        let name = joined(alloc, before, key.as_bytes())?;
+        let form = Form::Loss(is_free);
+        places.push(Place { name, form, value })?;
+    }
+    Ok(())
+}
+
+/// The losses that the keys of a table of this form may not give, where its keys are losses.
+fn taken_for(
+    alloc: Global,
+    walk: &Walk<'_>,
+    form: Form,
+) -> Result<Option<IndexSet<Formula>>, AllocError>
+    ensures { IfOk result (λ taken. option_map (λ set. set.keys) taken
+        ≡ taken_at (known_seen walk.now) (form_seen form)) }
+{
+    match form {
+        Form::NamedLosses => Ok(Some(IndexSet::new(alloc))),
+        Form::ImplausibleLosses => Ok(Some(gathered(alloc, walk.named)?)),
+        _ => Ok(None),
+    }
+}
+
+/// The losses of a table that may be there.
+fn gathered(alloc: Global, table: Option<&Table>) -> Result<IndexSet<Formula>, AllocError>
+    ensures { IfOk result (λ taken. taken.keys ≡ losses_seen table.entry) }
+{
+    match table {
+        Some(table) => losses_in(alloc, table),
+        None => Ok(IndexSet::new(alloc)),
+    }
+}
+
+/// The losses of a table, in the order of its keys.
+fn losses_in(alloc: Global, table: &Table) -> Result<IndexSet<Formula>, AllocError>
+    ensures { IfOk result (λ taken. taken.keys ≡ taken_by [] (table_view table.now)) }
+{
+    let mut taken = IndexSet::new(alloc);
+    for (key, _) in table.iter() {
+        let _ = take(&mut taken, key.as_str())?;
+    }
+    Ok(taken)
+}
+
+/// Takes the formula of a key, where it is one. Whether it is a loss that was free before.
+fn take(taken: &mut IndexSet<Formula>, key: &str) -> Result<bool, AllocError>
+    ensures free { IfOk result (λ was_free. was_free ≡ is_free taken.old.keys (key_formula key.now)) }
+    ensures taken { OnOk result (taken.new.keys ≡ taken_with taken.old.keys (key_formula key.now)) }
+{
+    match read_formula(key.as_bytes()) {
+        Ok(formula) => {
+            let is_new = taken.insert(formula)?;
+            Ok(is_new && formula != Formula::empty())
+        }
+        Err(_) => Ok(false),
+    }
 }
 
 /// The name of a place.
@@ -113,10 +218,10 @@ fn joined(alloc: Global, before: &[u8], step: &[u8]) -> Result<Vec<u8>, AllocErr
 }
 
 /// The name of a place with a point, which stands before the names of what is under it.
-fn with_point(alloc: Global, before: &[u8], step: &[u8]) -> Result<Vec<u8>, AllocError>
-    ensures { IfOk result (λ name. name.items ≡ spec.point_after (before.now ++ step.now)) }
+fn with_point(alloc: Global, name: &[u8]) -> Result<Vec<u8>, AllocError>
+    ensures { IfOk result (λ under. under.items ≡ spec.point_after name.now) }
 {
-    let mut name = joined(alloc, before, step)?;
-    name.push(b'.')?;
-    Ok(name)
+    let mut under = Vec::from_slice(alloc, name)?;
+    under.push(b'.')?;
+    Ok(under)
 }

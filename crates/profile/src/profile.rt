@@ -3,7 +3,7 @@ ghost use Rattle.std.specs.Prelude.{◌≡◌, IfOk};
 ghost use Rattle.profile.specs.Profile.{default_profile_value, default_limits};
 
 use crate::limits::Limits;
-use score_tables::Scores;
+use score_tables::{Scores, default_tables_are_right, sorted_tables_are_right};
 use std::alloc::{AllocError, Global};
 use std::marker::Model;
 use valence_filter::Rule;
@@ -54,7 +54,7 @@ impl Rules {
 /// What a run is done with: half the width of a window in parts per million of the m/z, 0 to 100, and its least value in
 /// units of 10^-7 Da, 0 to 2,000,000; the greatest number of selected peaks, 1 to 12; the budget of splits, 0 to 10,000; the
 /// greatest count of each element, one of them positive; the rules of the profile text that every listed formula has to pass,
-/// and those that candidates alone have to pass; and the tables of scores.
+/// and those that candidates alone have to pass.
 #[derive(Debug, Drop)]
 pub struct Profile {
     pub ppm: u32,
@@ -85,10 +85,12 @@ pub(crate) fn default_limits() -> Limits
 }
 
 /// The profile that counts where no text gives another: 10 parts per million and 10,000 units, 12 peaks, a budget of 200, the
-/// limits C 100, H 200, N 20, O 40, P 3 and S 3, no rules, and the default tables of scores.
+/// limits C 100, H 200, N 20, O 40, P 3 and S 3, and no rules.
 pub fn default_profile(alloc: Global) -> Result<Profile, AllocError>
     ensures { IfOk result (λ profile. profile ≡ default_profile_value) }
 {
+    default_tables_are_right();
+    sorted_tables_are_right();
     Ok(Profile {
         ppm: DEFAULT_PPM,
         abs: DEFAULT_ABS,

@@ -3,6 +3,7 @@ use crate::{
     Limits, Profile, ProfileFault, Rules, an_empty_text_gives_the_default, default_profile,
     read_profile, what_is_read_is_in_range,
 };
+use element_table::Formula;
 use std::alloc::{AllocError, Global};
 use std::fmt::Write;
 use std::test::Fail;
@@ -72,7 +73,7 @@ const DEFAULT: &str = "10 10000 12 200 0:200 1:100 2:20 3:40 4:3 5:3 neutral";
 #[test]
 fn refuses_at_the_first_fault(rt: HostRuntime) -> Result<(), Fail> {
     let alloc = rt.alloc();
-    let cases: [(&str, &str); 62] = [
+    let cases: [(&str, &str); 105] = [
         // one fault of each kind
         ("pmm = 10", "unknown pmm"),
         ("ppm = 101", "over ppm 101"),
@@ -114,7 +115,17 @@ fn refuses_at_the_first_fault(rt: HostRuntime) -> Result<(), Fail> {
         ("ppm = 9223372036854775808", "not TOML"),
         ("ppm = -9223372036854775809", "not TOML"),
         // unknown keys, in the order of the walk
-        ("scores = {}", "unknown scores"),
+        ("scores = {zz = 1}", "unknown scores.zz"),
+        (
+            "pmm = 1\nscores = {intensity = 1, named = 1, peaks = 1}",
+            "unknown pmm",
+        ),
+        (
+            "scores = {intensity = 1, named = 1, peaks = 1}",
+            "unknown scores.peaks",
+        ),
+        ("scores = {named = {Xx = 1}}\nzz = 1", "unknown zz"),
+        ("scores = {intensity = [{zz = 1}]}", "bad scores.intensity"),
         ("pmm = 1\nelements = {zz = 1}", "unknown elements.zz"),
         ("zz = 1\nrules = [{a = 1}, {b = 1}]", "unknown rules.0.a"),
         ("rules = [1, {b = 1}]", "unknown rules.1.b"),
@@ -157,6 +168,95 @@ fn refuses_at_the_first_fault(rt: HostRuntime) -> Result<(), Fail> {
         ("rules = [{}, {parity = \"Even\"}]", "bad rules.1.parity"),
         ("rules = [{apply = \"none\"}]", "bad rules.0.apply"),
         ("rules = [{apply = 1}]", "bad rules.0.apply"),
+        // tables of shares
+        ("scores = []", "bad scores"),
+        ("scores.intensity = {}", "bad scores.intensity"),
+        ("scores.intensity = []", "bad scores.intensity"),
+        ("scores.intensity = [[0]]", "bad scores.intensity"),
+        ("scores.intensity = [[0, 1, 2]]", "bad scores.intensity"),
+        (
+            "scores.intensity = [[500, 1], [0, 1.5]]",
+            "bad scores.intensity",
+        ),
+        ("scores.intensity = [[0, 1], 5]", "bad scores.intensity"),
+        ("scores.intensity = [[1, 1]]", "bad scores.intensity"),
+        (
+            "scores.intensity = [[5, 1], [5, 1], [0, 1]]",
+            "bad scores.intensity",
+        ),
+        (
+            "scores.intensity = [[5, 1], [6, 1], [0, 1]]",
+            "bad scores.intensity",
+        ),
+        (
+            "scores.intensity = [[-1, 1], [0, 1]]",
+            "bad scores.intensity",
+        ),
+        (
+            "scores.intensity = [[1001, 1], [0, 2001]]",
+            "over scores.intensity.0.0 1001",
+        ),
+        (
+            "scores.intensity = [[1000, 2000], [0, 2001]]",
+            "over scores.intensity.1.1 2001",
+        ),
+        (
+            "scores.intensity = [[1000, -2001], [0, 1]]",
+            "over scores.intensity.0.1 -2001",
+        ),
+        ("scores.error = []", "bad scores.error"),
+        ("scores.error = [[999, 1]]", "bad scores.error"),
+        (
+            "scores.error = [[5, 1], [5, 1], [1000, 1]]",
+            "bad scores.error",
+        ),
+        (
+            "scores.error = [[6, 1], [5, 1], [1000, 1]]",
+            "bad scores.error",
+        ),
+        (
+            "scores.error = [[-1, 1], [1000, 1]]",
+            "over scores.error.0.0 -1",
+        ),
+        // tables of losses
+        ("scores.named = []", "bad scores.named"),
+        ("scores.named = {H2O = 1.0}", "bad scores.named.H2O"),
+        ("scores.named = {H2O = 1, OH2 = 1}", "bad scores.named.OH2"),
+        ("scores.named = {\"-\" = 1}", "bad scores.named.-"),
+        ("scores.named = {\"\" = 1}", "bad scores.named."),
+        ("scores.named = {C02 = 1}", "bad scores.named.C02"),
+        ("scores.named = {Xx = 1}", "bad scores.named.Xx"),
+        ("scores.named = {C2000 = 1}", "bad scores.named.C2000"),
+        ("scores.named = {H2O = 2001}", "over scores.named.H2O 2001"),
+        (
+            "scores.implausible = {H2O = -2001}",
+            "over scores.implausible.H2O -2001",
+        ),
+        (
+            "scores.implausible = {C = 1, C1 = 1}",
+            "bad scores.implausible.C1",
+        ),
+        // a loss that is named too, which comes later in the walk
+        (
+            "scores.implausible = {OH2 = 1}\nscores.named = {H2O = 1}",
+            "bad scores.implausible.OH2",
+        ),
+        (
+            "scores.implausible = {C = 1}\nscores.named = {C = \"x\"}",
+            "bad scores.implausible.C",
+        ),
+        (
+            "scores.implausible = {C = 1}\nscores.named = {Xx = 1}",
+            "bad scores.named.Xx",
+        ),
+        // the other numbers
+        ("scores.radical = 2001", "over scores.radical 2001"),
+        ("scores.negative = -2001", "over scores.negative -2001"),
+        ("scores.negative = true", "bad scores.negative"),
+        ("scores.size = 9999999", "over scores.size 9999999"),
+        ("scores.size = 1000000001", "over scores.size 1000000001"),
+        // a bad value before a number out of range
+        ("scores = {size = 1, radical = \"x\"}", "bad scores.radical"),
         // no element with a positive limit
         ("elements = {}", "bad elements"),
         ("elements = {C = 0}", "bad elements"),
@@ -218,6 +318,62 @@ fn reads_profiles(rt: HostRuntime) -> Result<(), Fail> {
     let mut told = String::new(alloc);
     tell_profile(&mut told, &default_profile(alloc)?)?;
     assert_eq!(rt; told.as_str(), DEFAULT);
+    Ok(())
+}
+
+/// A text with a table of so many losses.
+fn long_tables(alloc: Global, losses: u16) -> Result<String, AllocError> {
+    let mut text = String::from_str(alloc, "scores.error = [")?;
+    text.push_str("[1000, 1]]\nscores.named = {")?;
+    for place in 1..losses {
+        write!(&mut text, "C{place} = 1, ")?;
+    }
+    text.push_str("H = 1}")?;
+    Ok(text)
+}
+
+#[test]
+fn counts_pairs_and_losses(rt: HostRuntime) -> Result<(), Fail> {
+    let alloc = rt.alloc();
+    let mut text = String::from_str(alloc, "scores.error = [")?;
+    for bound in 0..16 {
+        write!(&mut text, "[{bound}, 1], ")?;
+    }
+    text.push_str("[1000, 1]]")?;
+    let answer = tell(alloc, text.as_bytes())?;
+    assert_eq!(rt; answer.as_str(), "over scores.error 17");
+    assert!(rt; read_profile(alloc, long_tables(alloc, 64)?.as_bytes()).is_ok());
+    let answer = tell(alloc, long_tables(alloc, 65)?.as_bytes())?;
+    assert_eq!(rt; answer.as_str(), "over scores.named 65");
+    Ok(())
+}
+
+#[test]
+fn reads_scores(rt: HostRuntime) -> Result<(), Fail> {
+    let alloc = rt.alloc();
+    let text = "scores.intensity = [[500, 7], [0, -3]]\nscores.error = [[1000, 5]]\n\
+        scores.named = {OH2 = 11, CO = -9}\nscores.implausible = {C = -100}\n\
+        scores.radical = -1\nscores.negative = -2\nscores.size = 10000000";
+    let water = Formula::empty().with(0, 2).with(3, 1);
+    let carbon = Formula::empty().with(1, 1);
+    let Ok(profile) = read_profile(alloc, text.as_bytes()) else {
+        return Err(Fail::new("refused"));
+    };
+    assert_eq!(rt; profile.scores.peak_score(1, 2), 7);
+    assert_eq!(rt; profile.scores.peak_score(1, 3), -3);
+    assert_eq!(rt; profile.scores.error_score(1, 2), 5);
+    assert_eq!(rt; profile.scores.loss_score(&water), 11 - 18);
+    assert_eq!(rt; profile.scores.loss_score(&carbon), -100 - 12);
+    assert_eq!(rt;
+        profile.scores.loss_score(&Formula::empty().with(0, 3)),
+        -1 - 2 - 3
+    );
+    let Ok(other) = read_profile(alloc, b"scores.radical = 3") else {
+        return Err(Fail::new("refused"));
+    };
+    // what is not given is as in the default tables
+    assert_eq!(rt; other.scores.loss_score(&water), 12);
+    assert_eq!(rt; other.scores.loss_score(&Formula::empty().with(0, 1)), 3);
     Ok(())
 }
 

@@ -11,9 +11,10 @@ use crate::limits::Limits;
 use crate::profile::{
     DEFAULT_ABS, DEFAULT_BUDGET, DEFAULT_PEAKS, DEFAULT_PPM, Profile, Rules, default_limits,
 };
+use crate::scores::scores_in;
 use crate::table::{array_at, element_number, number_at, says, table_at};
-use element_table::FORMULA_PLACES;
-use score_tables::Scores;
+use element_table::{FORMULA_PLACES, a_read_formula_is_one};
+use score_tables::{default_tables_are_right, sorted_tables_are_right};
 use std::alloc::{AllocError, Global};
 use toml::value::Array;
 use toml::{Table, Value};
@@ -24,6 +25,9 @@ pub(crate) fn profile_in(alloc: Global, table: &Table) -> Result<Profile, AllocE
     requires { IsFine form.whole (table_view table.now) }
     ensures { IfOk result (λ profile. profile ≡ spec.profile_value_of (table_view table.now)) }
 {
+    a_read_formula_is_one();
+    default_tables_are_right();
+    sorted_tables_are_right();
     Ok(Profile {
         ppm: count_at(table, "ppm", DEFAULT_PPM),
         abs: count_at(table, "abs", DEFAULT_ABS),
@@ -32,7 +36,7 @@ pub(crate) fn profile_in(alloc: Global, table: &Table) -> Result<Profile, AllocE
         limits: limits_in(table),
         rules: rules_in(alloc, table, false)?,
         neutral_rules: rules_in(alloc, table, true)?,
-        scores: Scores::default_tables(alloc)?,
+        scores: scores_in(alloc, table)?,
     })
 }
 
@@ -78,7 +82,7 @@ fn rules_in(alloc: Global, table: &Table, neutral: bool) -> Result<Rules, AllocE
 }
 
 fn rules_said(alloc: Global, items: &Array, neutral: bool) -> Result<Rules, AllocError>
-    requires { AreFine (array_view items.now) }
+    requires { AreFine form.rules (array_view items.now) }
     ensures { IfOk result (λ rules. rules ≡ spec.rules_said neutral (array_view items.now)) }
 {
     let mut rules = Vec::new(alloc);
@@ -90,7 +94,7 @@ fn rules_said(alloc: Global, items: &Array, neutral: bool) -> Result<Rules, Allo
 
 /// Adds a rule, where it is one of those that candidates alone have to pass, or one of the others.
 fn add_rule(item: &Value, neutral: bool, rules: &mut Vec<Rule>) -> Result<(), AllocError>
-    requires { AreFine (alone (view item.now)) }
+    requires { AreFine form.rules (alone (view item.now)) }
     ensures { OnOk result (rules.new.items ≡ rules.old.items ++ spec.rules_said neutral (alone (view item.now))) }
 {
     match item.as_table() {

@@ -11,7 +11,7 @@ use Rattle.profile.proofs.values.coefficients_of.Goals as goal
 
 fits : (c : goal.After-element_number) → FitsSigned w32 c.element_number.result
 fits c =
-    let (low, high) = rw (← c.element_number.ensures) at (element_in_range coefficients (table_view c.args.elements.now) (negsuc 999) (pos 1000) c.loop-place.place c.requires (λ key. refl) (omega arith) (omega arith)) in
+    let (low, high) = rw (← c.element_number.ensures) at (element_in_range coefficients (table_view c.args.elements.now) (negsuc 999) (pos 1000) c.loop-place.place c.requires (λ known key. refl) (omega arith) (omega arith)) in
     fits_narrow c.element_number.result (omega (arith, ints, low)) (omega (arith, ints, high))
 
 pub overflow_cast-coefficients : goal.overflow_cast-coefficients

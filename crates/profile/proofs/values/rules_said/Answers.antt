@@ -2,6 +2,7 @@ use Rattle.std.proofs.Common.{◌≡◌, ◌+◌, get_or, drop, arith, append_as
 use Rattle.std.proofs.lemmas.Grind.{common_steps}
 use Rattle.toml.specs.View.{view, items_view}
 use Rattle.toml.proofs.Views.{items_view-drop}
+use Rattle.profile.specs.Form.{rules}
 use Rattle.profile.proofs.FineLaws.{fine_alone, fine_others}
 use Rattle.profile.proofs.RuleLaws.{rules_said-first}
 use Rattle.profile.proofs.values.rules_said.Goals as goal
@@ -25,6 +26,6 @@ loop-item-preserved c =
     let fine = rw (step, at) at c.loop-item.invariant.fine in
     let so_far = rw (step, at, rules_said-first c.args.neutral (view item) (items_view (drop (i + 1) values))) at c.loop-item.invariant.so_far in
     record {
-      fine = fine_others (view item) (items_view (drop (i + 1) values)) fine;
+      fine = fine_others rules (view item) (items_view (drop (i + 1) values)) fine;
       so_far = rw (c.in_ok-add_rule.ensures, append_assoc) so_far;
     }

@@ -1,0 +1,10 @@
+use Rattle.std.proofs.Common.{◌≡◌, ◌∙◌, sym, ap, rules, length}
+use Rattle.toml.specs.View.{view}
+use Rattle.profile.specs.Form.{too_many}
+use Rattle.profile.proofs.KindLaws.{keys_excess-table}
+use Rattle.profile.proofs.form.too_many_keys.Goals as goal
+
+pub returns-in-Some : goal.returns-in-Some
+returns-in-Some c =
+    let len : c.len.result ≡ length c.in-Some.table.now.entries = search rules in
+    c.too_many.ensures ∙ ap (too_many c.args.greatest) len ∙ sym (keys_excess-table c.args.greatest (view c.args.value.now) c.in-Some.table.now.entries (sym c.in-Some.ensures))
