@@ -1,0 +1,4 @@
+pub mod Lists
+pub mod Vertices
+pub mod LossGraph
+pub mod inside
