@@ -2,9 +2,10 @@
 use Rattle.std.specs.Prelude.{ℕ, zero, suc, ℤ, pos, neg_ℤ, int_lt, int_le, Bool, true, false, ◌&&◌, List, [], ◌∷◌, Option, Some, None, is_none, is_some, option_and_then, unwrap_or, codes, nat_le, bytes_eq, if◌then◌else◌}
 use Rattle.std.specs.List.{list_any}
 use Rattle.std.specs.Map.{lookup}
+use Rattle.element_table.specs.Elements.{greatest_count}
 use Rattle.score_tables.specs.Tables.{falls_to_nought, greatest_losses, greatest_pairs, greatest_score, greatest_share, greatest_size, least_size, rises_to_whole}
 use Rattle.toml.specs.Data.{Data, string, integer, array, table, as_integer, at, Items, no_items, item, Members, no_members, member}
-use Rattle.profile.specs.Profile.{greatest_rules}
+use Rattle.profile.specs.Profile.{greatest_abs, greatest_budget, greatest_peaks, greatest_ppm, greatest_rules}
 use Rattle.profile.specs.Table.{element_numbers}
 
 -- what is known of the whole table before its places are looked at
@@ -50,10 +51,10 @@ pub data Form : Type 0 where
 abbrev pub profile_keys : List (List ℕ × Form)
 profile_keys =
     (codes "version", number (pos 1) (pos 1))
-    ∷ (codes "ppm", number (pos 0) (pos 100))
-    ∷ (codes "abs", number (pos 0) (pos 2000000))
-    ∷ (codes "peaks", number (pos 1) (pos 12))
-    ∷ (codes "budget", number (pos 0) (pos 10000))
+    ∷ (codes "ppm", number (pos 0) (pos greatest_ppm))
+    ∷ (codes "abs", number (pos 0) (pos greatest_abs))
+    ∷ (codes "peaks", number (pos 1) (pos greatest_peaks))
+    ∷ (codes "budget", number (pos 0) (pos greatest_budget))
     ∷ (codes "elements", limits)
     ∷ (codes "rules", rules)
     ∷ (codes "scores", scores)
@@ -108,7 +109,7 @@ abbrev pub form_at : Known → Form → List ℕ → Form
 form_at known whole key = form_among profile_keys key
 form_at known rule key = form_among rule_keys key
 form_at known scores key = form_among score_keys key
-form_at known limits key = number_of_element known.symbols key (pos 0) (pos 1999)
+form_at known limits key = number_of_element known.symbols key (pos 0) (pos greatest_count)
 form_at known coefficients key = number_of_element known.symbols key (neg_ℤ (pos 1000)) (pos 1000)
 form_at known form key = unknown
 

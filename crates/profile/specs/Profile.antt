@@ -16,6 +16,20 @@ pub record ProfileValue : Type 0 where
   pub neutral_rules : List Rule
   pub scores : ScoresValue
 
+-- the greatest numbers of a profile: half the width of a window in parts in a million and its least value in units, how many
+-- peaks are selected, and how many splits
+abbrev pub greatest_ppm : ℕ
+greatest_ppm = 100
+
+abbrev pub greatest_abs : ℕ
+greatest_abs = 2000000
+
+abbrev pub greatest_peaks : ℕ
+greatest_peaks = 12
+
+abbrev pub greatest_budget : ℕ
+greatest_budget = 10000
+
 -- how many rules a text may have, those for candidates among them
 abbrev pub greatest_rules : ℕ
 greatest_rules = 32
@@ -23,11 +37,11 @@ greatest_rules = 32
 -- what every profile is: its numbers are in their ranges, some element may stand in a formula, each rule is one, and so are
 -- the tables of scores
 pub record IsProfile (profile : ProfileValue) : Type 0 where
-  pub ppm : profile.ppm ≤ 100
-  pub abs : profile.abs ≤ 2000000
+  pub ppm : profile.ppm ≤ greatest_ppm
+  pub abs : profile.abs ≤ greatest_abs
   pub some_peak : 1 ≤ profile.peaks
-  pub peaks : profile.peaks ≤ 12
-  pub budget : profile.budget ≤ 10000
+  pub peaks : profile.peaks ≤ greatest_peaks
+  pub budget : profile.budget ≤ greatest_budget
   pub limits : IsFormula profile.limits
   pub rules : All IsRule profile.rules
   pub neutral_rules : All IsRule profile.neutral_rules

@@ -51,12 +51,15 @@ pub(crate) enum Form {
     Unknown,
 }
 
+/// How many peaks may be selected.
+const GREATEST_PEAKS: i64 = 12;
+
 /// The keys of the whole table.
 const PROFILE_KEYS: [(&str, Form); 8] = [
     ("version", Form::Number(1, 1)),
     ("ppm", Form::Number(0, 100)),
     ("abs", Form::Number(0, 2_000_000)),
-    ("peaks", Form::Number(1, 12)),
+    ("peaks", Form::Number(1, GREATEST_PEAKS)),
     ("budget", Form::Number(0, 10_000)),
     ("elements", Form::Elements),
     ("rules", Form::Rules),
