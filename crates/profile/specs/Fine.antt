@@ -43,7 +43,8 @@ AreShareItems (item value items) = IsShareItem value × AreShareItems items
 -- scores that are near 0
 abbrev pub AreNearScores : Members → Type 0
 AreNearScores no_members = ⊤
-AreNearScores (member key value members) = IsNearZero greatest_score (unwrap_or (as_integer value) (pos 0)) × AreNearScores members
+AreNearScores (member key value members) =
+    IsNearZero greatest_score (unwrap_or (as_integer value) (pos 0)) × AreNearScores members
 
 -- one item
 abbrev pub alone : Data → Items

@@ -1,4 +1,5 @@
--- What may stand at a place of a profile text: the keys of its tables, the kinds of its values, and the ranges of its numbers.
+-- What may stand at a place of a profile text: the keys of its tables, the kinds of its values, and the ranges of its
+-- numbers.
 use Rattle.std.specs.Prelude.{ℕ, zero, suc, ℤ, pos, neg_ℤ, int_lt, int_le, Bool, true, false, ◌&&◌, List, [], ◌∷◌, Option, Some, None, is_none, is_some, option_and_then, unwrap_or, codes, nat_le, bytes_eq, if◌then◌else◌}
 use Rattle.std.specs.List.{list_any}
 use Rattle.std.specs.Map.{lookup}
@@ -207,7 +208,8 @@ outside least most z = if int_le least z && int_le z most then None else Some z
 abbrev pub too_many : ℕ → ℕ → Option ℤ
 too_many greatest count = if nat_le count greatest then None else Some (pos count)
 
--- the number that is out of range: an integer out of its own, or how many items or keys there are where they are too many
+-- the number that is out of range: an integer out of its own, or how many items or keys there are where they are too
+-- many
 abbrev pub excess_of : Form → Data → Option ℤ
 excess_of (number least most) (integer z) = outside least most z
 excess_of (loss free) (integer z) = outside (neg_ℤ (pos greatest_score)) (pos greatest_score) z

@@ -16,8 +16,8 @@ pub record ProfileValue : Type 0 where
   pub neutral_rules : List Rule
   pub scores : ScoresValue
 
--- the greatest numbers of a profile: half the width of a window in parts in a million and its least value in units, how many
--- peaks are selected, and how many splits
+-- the greatest numbers of a profile: half the width of a window in parts in a million and its least value in units,
+-- how many peaks are selected, and how many splits
 abbrev pub greatest_ppm : ℕ
 greatest_ppm = 100
 
@@ -34,8 +34,8 @@ greatest_budget = 10000
 abbrev pub greatest_rules : ℕ
 greatest_rules = 32
 
--- what every profile is: its numbers are in their ranges, some element may stand in a formula, each rule is one, and so are
--- the tables of scores
+-- what every profile is: its numbers are in their ranges, some element may stand in a formula, each rule is one,
+-- and so are the tables of scores
 pub record IsProfile (profile : ProfileValue) : Type 0 where
   pub ppm : profile.ppm ≤ greatest_ppm
   pub abs : profile.abs ≤ greatest_abs
@@ -54,4 +54,13 @@ abbrev pub default_limits : List ℕ
 default_limits = (200 ∷ 100 ∷ 20 ∷ 40 ∷ 3 ∷ 3 ∷ []) ++ replicate 10 0
 
 abbrev pub default_profile_value : ProfileValue
-default_profile_value = record { ppm = 10; abs = 10000; peaks = 12; budget = 200; limits = default_limits; rules = []; neutral_rules = []; scores = default_scores }
+default_profile_value = record {
+  ppm = 10;
+  abs = 10000;
+  peaks = 12;
+  budget = 200;
+  limits = default_limits;
+  rules = [];
+  neutral_rules = [];
+  scores = default_scores;
+}

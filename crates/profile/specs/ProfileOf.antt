@@ -1,5 +1,5 @@
--- The profile of a text, or why it is refused. The table is the one that the grammar of TOML gives for the text; bytes that are no UTF-8 are
--- not TOML.
+-- The profile of a text, or why it is refused. The table is the one that the grammar of TOML gives for the text; bytes
+-- that are no UTF-8 are not TOML.
 use Rattle.std.specs.Prelude.{ℕ, List, Option, Some, None, Result, Ok, Err, if◌then◌else◌}
 use Rattle.std.specs.Str.{is_utf8}
 use Rattle.toml.specs.Data.{Members}

@@ -1,4 +1,5 @@
--- Why the table of a profile text is refused: the first unknown key, or else the first bad value, or else the first number out of range.
+-- Why the table of a profile text is refused: the first unknown key, or else the first bad value, or else the first number
+-- out of range.
 use Rattle.std.specs.Prelude.{List, [], ◌∷◌, Option, Some, None, option_map, if◌then◌else◌}
 use Rattle.std.specs.Option.{option_or}
 use Rattle.profile.specs.Form.{is_unknown, has_kind, excess_of}
@@ -21,4 +22,5 @@ abbrev pub over_at : Place → Option ProfileFault
 over_at place = option_map (OverLimit place.name) (excess_of place.form place.value)
 
 abbrev pub refusal_of : List Place → Option ProfileFault
-refusal_of places = option_or (first_fault unknown_at places) (option_or (first_fault bad_at places) (first_fault over_at places))
+refusal_of places =
+    option_or (first_fault unknown_at places) (option_or (first_fault bad_at places) (first_fault over_at places))

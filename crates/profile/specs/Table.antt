@@ -23,4 +23,5 @@ items_at members key = unwrap_or (option_and_then as_array (get_member key membe
 
 -- the integer at each element's symbol, by places, and 0 where there is none
 unfoldable pub element_numbers : Members → List ℤ
-element_numbers members = map (λ symbol. number_at members symbol (pos 0)) symbols ++ replicate (formula_places - length symbols) (pos 0)
+element_numbers members =
+    map (λ symbol. number_at members symbol (pos 0)) symbols ++ replicate (formula_places - length symbols) (pos 0)

@@ -20,7 +20,9 @@ abbrev pub limits_of : Members → List ℕ
 limits_of members = map as_count (element_numbers members)
 
 abbrev pub parity_said : Members → Parity
-parity_said members = if says members (codes "parity") (codes "even") then even else if says members (codes "parity") (codes "odd") then odd else any
+parity_said members =
+    if says members (codes "parity") (codes "even") then even
+    else if says members (codes "parity") (codes "odd") then odd else any
 
 abbrev pub rule_of : Members → Rule
 rule_of members = record {
@@ -69,10 +71,16 @@ losses_said (member key value members) = loss_said key value ∷ losses_said mem
 -- the tables of a table `scores`
 abbrev pub tables_said : Members → ScoresValue
 tables_said members = record {
-  intensity = option_map_or shares_said (option_and_then as_array (get_member (codes "intensity") members)) default_tables.intensity;
-  error = option_map_or shares_said (option_and_then as_array (get_member (codes "error") members)) default_tables.error;
-  named = option_map_or losses_said (option_and_then as_table (get_member (codes "named") members)) default_tables.named;
-  implausible = option_map_or losses_said (option_and_then as_table (get_member (codes "implausible") members)) default_tables.implausible;
+  intensity =
+      option_map_or shares_said (option_and_then as_array (get_member (codes "intensity") members))
+      default_tables.intensity;
+  error =
+      option_map_or shares_said (option_and_then as_array (get_member (codes "error") members)) default_tables.error;
+  named =
+      option_map_or losses_said (option_and_then as_table (get_member (codes "named") members)) default_tables.named;
+  implausible =
+      option_map_or losses_said (option_and_then as_table (get_member (codes "implausible") members))
+      default_tables.implausible;
   radical = number_at members (codes "radical") default_tables.radical;
   negative = number_at members (codes "negative") default_tables.negative;
   size = as_count (number_at members (codes "size") (pos default_tables.size));
@@ -84,7 +92,8 @@ profile_value_of members = record {
   abs = as_count (number_at members (codes "abs") (pos default_profile_value.abs));
   peaks = as_count (number_at members (codes "peaks") (pos default_profile_value.peaks));
   budget = as_count (number_at members (codes "budget") (pos default_profile_value.budget));
-  limits = option_map_or limits_of (option_and_then as_table (get_member (codes "elements") members)) default_profile_value.limits;
+  limits =
+      option_map_or limits_of (option_and_then as_table (get_member (codes "elements") members)) default_profile_value.limits;
   rules = rules_said false (items_at members (codes "rules"));
   neutral_rules = rules_said true (items_at members (codes "rules"));
   scores = in_formula_order (tables_said (table_at members (codes "scores")));

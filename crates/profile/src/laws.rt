@@ -11,9 +11,8 @@ pub fn an_empty_text_gives_the_default()
     ensures { profile_of [] ≡ Ok default_profile_value }
 {}
 
-/// The numbers of every profile that a text gives are in their ranges, its limits are counts of a formula, one of them at
-/// least is positive, its rules are rules, 32 at most, and so are the tables of
-/// its scores.
+/// The numbers of every profile that a text gives are in their ranges, its limits are counts of a formula, one of them
+/// at least is positive, its rules are rules, 32 at most, and its scores are tables of scores.
 pub fn what_is_read_is_in_range()
     ensures { (bytes : List ℕ) (profile : ProfileValue) → profile_of bytes ≡ Ok profile → IsProfile profile }
 {

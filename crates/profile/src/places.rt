@@ -48,7 +48,8 @@ pub(crate) fn lay_out<'a>(alloc: Global, table: &'a Table) -> Result<Vec<Place<'
 
 /// The table of the losses that a text names.
 fn named_losses<'a>(table: &'a Table) -> Option<&'a Table>
-    ensures { losses_seen result ≡ taken_by [] (said.table_at (said.table_at (table_view table.now) (codes "scores")) (codes "named")) }
+    ensures { losses_seen result
+        ≡ taken_by [] (said.table_at (said.table_at (table_view table.now) (codes "scores")) (codes "named")) }
 {
     match table_at(table, "scores") {
         Some(scores) => table_at(scores, "named"),

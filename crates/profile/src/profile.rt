@@ -72,9 +72,27 @@ impl Model for Profile {
 
     ghost Value = { ProfileValue };
 
-    ghost view = { λ profile. record { ppm = profile.ppm; abs = profile.abs; peaks = profile.peaks; budget = profile.budget; limits = profile.limits; rules = profile.rules; neutral_rules = profile.neutral_rules; scores = profile.scores } };
+    ghost view = { λ profile. record {
+      ppm = profile.ppm;
+      abs = profile.abs;
+      peaks = profile.peaks;
+      budget = profile.budget;
+      limits = profile.limits;
+      rules = profile.rules;
+      neutral_rules = profile.neutral_rules;
+      scores = profile.scores;
+    } };
 
-    ghost invariant = { λ profile. IsProfile (record { ppm = profile.ppm; abs = profile.abs; peaks = profile.peaks; budget = profile.budget; limits = profile.limits; rules = profile.rules; neutral_rules = profile.neutral_rules; scores = profile.scores }) };
+    ghost invariant = { λ profile. IsProfile (record {
+      ppm = profile.ppm;
+      abs = profile.abs;
+      peaks = profile.peaks;
+      budget = profile.budget;
+      limits = profile.limits;
+      rules = profile.rules;
+      neutral_rules = profile.neutral_rules;
+      scores = profile.scores;
+    }) };
 }
 
 /// The limits of the default profile: C 100, H 200, N 20, O 40, P 3 and S 3.

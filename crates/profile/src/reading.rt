@@ -27,7 +27,8 @@ pub fn read_profile(alloc: Global, bytes: &[u8]) -> Result<Profile, ProfileFault
 /// The table of a text, where it is TOML.
 fn read_table(alloc: Global, bytes: &[u8]) -> Result<Table, ProfileFault>
     ensures read { IfOk result (λ table. table_of bytes.now ≡ Some (table_view table)) }
-    ensures refused { IfErr result (λ fault. fault ≢ OutOfMemory → (fault ≡ NotToml) × (table_of bytes.now ≡ None)) }
+    ensures refused { IfErr result (λ fault. fault ≢ OutOfMemory
+        → (fault ≡ NotToml) × (table_of bytes.now ≡ None)) }
 {
     match toml::table_from_slice(alloc, bytes) {
         Ok(table) => Ok(table),

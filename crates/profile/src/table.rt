@@ -59,7 +59,8 @@ fn is_word(value: &Value, word: &str) -> bool
 
 /// The table at a key.
 pub(crate) fn table_at<'a>(table: &'a Table, key: &str) -> Option<&'a Table>
-    ensures { option_map (λ found. table_view found.now) result ≡ option_and_then as_table (get_member key.now (table_view table.now)) }
+    ensures { option_map (λ found. table_view found.now) result
+        ≡ option_and_then as_table (get_member key.now (table_view table.now)) }
 {
     match value_at(table, key) {
         Some(value) => value.as_table(),
@@ -69,7 +70,8 @@ pub(crate) fn table_at<'a>(table: &'a Table, key: &str) -> Option<&'a Table>
 
 /// The array at a key.
 pub(crate) fn array_at<'a>(table: &'a Table, key: &str) -> Option<&'a Array>
-    ensures { option_map (λ found. array_view found.now) result ≡ option_and_then as_array (get_member key.now (table_view table.now)) }
+    ensures { option_map (λ found. array_view found.now) result
+        ≡ option_and_then as_array (get_member key.now (table_view table.now)) }
 {
     match value_at(table, key) {
         Some(value) => value.as_array(),

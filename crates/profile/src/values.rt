@@ -73,7 +73,8 @@ fn limits_of(elements: &Table) -> Limits
 /// The rules that candidates alone have to pass, or those that all formulas have to pass.
 fn rules_in(alloc: Global, table: &Table, neutral: bool) -> Result<Rules, AllocError>
     requires { IsFine form.whole (table_view table.now) }
-    ensures { IfOk result (λ rules. rules ≡ spec.rules_said neutral (said.items_at (table_view table.now) (codes "rules"))) }
+    ensures { IfOk result (λ rules. rules
+        ≡ spec.rules_said neutral (said.items_at (table_view table.now) (codes "rules"))) }
 {
     match array_at(table, "rules") {
         Some(items) => rules_said(alloc, items, neutral),
