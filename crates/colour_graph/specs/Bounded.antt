@@ -7,7 +7,8 @@ use Rattle.colour_graph.specs.EdgeSet.{all_edges, is_allowed}
 
 -- no colourful list of edges of the set scores more
 abbrev pub IsBounded : Graph → List Bool → ℤ → Type 0
-IsBounded graph allowed upper = (edges : List ℕ) → IsColourful graph edges → All (λ edge. IsTrue (is_allowed allowed edge)) edges
+IsBounded graph allowed upper =
+    (edges : List ℕ) → IsColourful graph edges → All (λ edge. IsTrue (is_allowed allowed edge)) edges
     → score_of graph edges ≤ℤ upper
 
 -- a colourful list of edges that no other outscores

@@ -7,10 +7,12 @@ abbrev pub root_alone : ℤ → Graph
 root_alone root_score = record { root_score = root_score; colours = 0 ∷ []; edges = [] }
 
 abbrev pub with_vertex : Graph → ℕ → Graph
-with_vertex graph colour = record { root_score = graph.root_score; colours = graph.colours ++ colour ∷ []; edges = graph.edges }
+with_vertex graph colour =
+    record { root_score = graph.root_score; colours = graph.colours ++ colour ∷ []; edges = graph.edges }
 
 abbrev pub with_edge : Graph → Edge → Graph
-with_edge graph edge = record { root_score = graph.root_score; colours = graph.colours; edges = graph.edges ++ edge ∷ [] }
+with_edge graph edge =
+    record { root_score = graph.root_score; colours = graph.colours; edges = graph.edges ++ edge ∷ [] }
 
 -- an edge stands after the last of a graph, if it has one
 abbrev pub ComesNext : Graph → Edge → Type 0

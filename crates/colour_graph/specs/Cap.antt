@@ -12,4 +12,5 @@ greatest ns = fold int_max (pos 0) ns
 -- the root score and, for each colour, the greatest weight of the set's edges into it, where that is more than 0
 abbrev pub cap_of : Graph → List Bool → ℤ
 cap_of graph allowed =
-    graph.root_score +ℤ total (map (λ colour. greatest (weights_of graph (edges_into graph allowed colour))) (colours_of graph))
+    graph.root_score
+    +ℤ total (map (λ colour. greatest (weights_of graph (edges_into graph allowed colour))) (colours_of graph))

@@ -1,5 +1,6 @@
 -- A graph whose vertices have colours, as a plain value, and what every graph of this crate is.
-use Rattle.std.specs.Prelude.{◌≡◌, ◌≤◌, ◌<◌, ◌+◌, ◌-◌, ℕ, ℤ, pos, negsuc, ◌≤ℤ◌, List, length, slice_index, slice_index_or}
+use Rattle.std.specs.Prelude.{◌≡◌, ◌≤◌, ◌<◌, ◌+◌, ◌-◌, ℕ, ℤ, pos, negsuc, ◌≤ℤ◌, List, length, slice_index}
+use Rattle.std.specs.Prelude.{slice_index_or}
 use Rattle.std.specs.List.{All, AllPairs}
 use Rattle.colour_graph.specs.declared.edge.Edge.{Edge}
 
@@ -39,7 +40,8 @@ pub record HasColours (colours : List ℕ) : Type 0 where
   pub root : slice_index colours 0 ≡ 0
   pub others : (vertex : ℕ) → 0 < vertex → vertex < length colours → 0 < slice_index colours vertex
   pub in_order : AllPairs (λ first later. first ≤ later) colours
-  pub no_gap : (vertex : ℕ) → vertex + 1 < length colours → slice_index colours (vertex + 1) ≤ slice_index colours vertex + 1
+  pub no_gap : (vertex : ℕ) → vertex + 1 < length colours
+      → slice_index colours (vertex + 1) ≤ slice_index colours vertex + 1
 
 -- an edge between two vertices of a graph, to a greater colour
 pub record IsEdge (graph : Graph) (edge : Edge) : Type 0 where

@@ -23,11 +23,16 @@ impl Model for GraphBuilder {
 
     ghost Value = { Graph };
 
-    ghost view = { λ graph. record { root_score = graph.root_score; colours = graph.colours.items; edges = graph.edges.items } };
+    ghost view = { λ graph.
+        record { root_score = graph.root_score; colours = graph.colours.items; edges = graph.edges.items } };
 
     ghost invariant = { λ graph.
         (IsGraph (record { root_score = graph.root_score; colours = graph.colours.items; edges = graph.edges.items }))
-        × (colour_count (record { root_score = graph.root_score; colours = graph.colours.items; edges = graph.edges.items })
+        × (colour_count (record {
+          root_score = graph.root_score;
+          colours = graph.colours.items;
+          edges = graph.edges.items;
+        })
         < length graph.ends.items) };
 }
 
@@ -51,7 +56,8 @@ impl GraphBuilder {
         })
     }
 
-    /// Adds a vertex of the last vertex's colour or of the next one, and tells its place. Without memory nothing is changed.
+    /// Adds a vertex of the last vertex's colour or of the next one, and tells its place. Without memory nothing is
+    /// changed.
     pub fn vertex(&mut self, colour: Colour) -> Result<VertexId, AllocError>
         requires not_root { 0 < colour }
         requires not_before { colour_count self.old ≤ colour }
@@ -73,7 +79,8 @@ impl GraphBuilder {
     pub fn edge(&mut self, tail: VertexId, head: VertexId, weight: i32) -> Result<(), AllocError>
         requires is_edge { IsEdge self.old (record { tail = tail; head = head; weight = weight }) }
         requires next { ComesNext self.old (record { tail = tail; head = head; weight = weight }) }
-        ensures added { OnOk result (self.new ≡ with_edge self.old (record { tail = tail; head = head; weight = weight })) }
+        ensures added { OnOk result
+            (self.new ≡ with_edge self.old (record { tail = tail; head = head; weight = weight })) }
         ensures unchanged { OnErr result (self.new ≡ self.old) }
     {
         self.edges.push(Edge { tail, head, weight })?;

@@ -14,8 +14,8 @@ use crate::graph::ColourGraph;
 const WORDS: usize = 64;
 
 impl ColourGraph {
-    /// Whether the heads of a list of edges, in any order, have different colours and each tail is the root or a head. An edge
-    /// that the graph does not have makes no colourful list.
+    /// Whether the heads of a list of edges, in any order, have different colours and each tail is the root or a head.
+    /// An edge that the graph does not have makes no colourful list.
     pub fn is_colourful(&self, edges: &[EdgeId]) -> bool
         ensures { IsTrue result ↔ IsColourful self.now edges.now }
     {
@@ -25,7 +25,8 @@ impl ColourGraph {
         }
     }
 
-    /// The heads of a list of edges, as bits. None where the graph does not have an edge of it, or two heads have one colour.
+    /// The heads of a list of edges, as bits. None where the graph does not have an edge of it, or two heads have one
+    /// colour.
     fn marked_heads(&self, edges: &[EdgeId]) -> Option<[u64; WORDS]>
         ensures few { length self.now.colours ≤ greatest_vertices }
         ensures apart { IsSome result ↔ AreApart self.now edges.now }

@@ -7,9 +7,9 @@ use crate::edge::{Colour, Edge, EdgeId, VertexId};
 use crate::index::index_of;
 use std::marker::Model;
 
-/// A graph whose vertices have colours. Vertex 0 is the root and alone has colour 0; the other vertices stand in order of
-/// their colours, 1 to k without a gap, and there are at most 4,096 in all. The edges stand by their heads, then by their
-/// tails, each once and each to a greater colour. The root's score and each weight are within 100,000 of 0.
+/// A graph whose vertices have colours. Vertex 0 is the root and alone has colour 0; the other vertices stand in order
+/// of their colours, 1 to k without a gap, and there are at most 4,096 in all. The edges stand by their heads, then by
+/// their tails, each once and each to a greater colour. The root's score and each weight are within 100,000 of 0.
 #[derive(Debug, Drop)]
 pub struct ColourGraph {
     root_score: i32,
@@ -25,12 +25,17 @@ impl Model for ColourGraph {
 
     ghost Value = { Graph };
 
-    ghost view = { λ graph. record { root_score = graph.root_score; colours = graph.colours.items; edges = graph.edges.items } };
+    ghost view = { λ graph.
+        record { root_score = graph.root_score; colours = graph.colours.items; edges = graph.edges.items } };
 
     ghost invariant = { λ graph.
         (IsGraph (record { root_score = graph.root_score; colours = graph.colours.items; edges = graph.edges.items }))
         × (IsIndex graph.colours.items graph.edges.items graph.ends.items)
-        × (colour_count (record { root_score = graph.root_score; colours = graph.colours.items; edges = graph.edges.items })
+        × (colour_count (record {
+          root_score = graph.root_score;
+          colours = graph.colours.items;
+          edges = graph.edges.items;
+        })
         < length graph.ends.items) };
 }
 
@@ -45,7 +50,8 @@ impl ColourGraph {
         ends: Vec<u32>,
     ) -> ColourGraph
         requires graph { IsGraph (record { root_score = root_score; colours = colours.items; edges = edges.items }) }
-        requires ends { colour_count (record { root_score = root_score; colours = colours.items; edges = edges.items }) < length ends.items }
+        requires ends { colour_count (record { root_score = root_score; colours = colours.items; edges = edges.items })
+            < length ends.items }
         ensures { result ≡ record { root_score = root_score; colours = colours.items; edges = edges.items } }
     {
         let ends = index_of(&colours, &edges, ends);
@@ -105,8 +111,8 @@ impl ColourGraph {
         self.edges[edge as usize]
     }
 
-    /// The first edge into a colour and the one past the last. Where there is none, both numbers are the number of edges into
-    /// smaller colours.
+    /// The first edge into a colour and the one past the last. Where there is none, both numbers are the number of
+    /// edges into smaller colours.
     pub fn edges_into(&self, colour: Colour) -> (EdgeId, EdgeId)
         requires not_root { 0 < colour }
         requires counted { colour ≤ colour_count self.now }

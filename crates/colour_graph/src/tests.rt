@@ -4,8 +4,8 @@ use std::alloc::{AllocError, Global};
 use std::process::Abort;
 use std::test::Fail;
 
-/// A graph with a trap: the heaviest edge from the root, to vertex 1, is not in the best tree. Vertices 1 and 2 have colour
-/// 1, vertex 3 has colour 2.
+/// A graph with a trap: the heaviest edge from the root, to vertex 1, is not in the best tree. Vertices 1 and 2 have
+/// colour 1, vertex 3 has colour 2.
 fn trap(alloc: Global, rt: &impl Abort) -> Result<ColourGraph, AllocError> {
     let mut builder = GraphBuilder::new(alloc, 0)?;
     assert_eq!(rt; builder.vertex(1)?, 1);

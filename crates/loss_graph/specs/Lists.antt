@@ -1,4 +1,5 @@
--- The lists of a spectrum that a graph is built from: the precursor's first, then those of the selected peaks by falling m/z.
+-- The lists of a spectrum that a graph is built from: the precursor's first, then those of the selected peaks by
+-- falling m/z.
 use Rattle.std.specs.Prelude.{◌≡◌, ◌≤◌, ◌<◌, ◌^◌, ℕ, List, [], drop, fold, length, map, max, slice_index_or}
 use Rattle.std.specs.List.{All, AllPairs, Contains}
 use Rattle.std.specs.declared.cmp.Ordering.TheVariants.{Less}
@@ -32,8 +33,8 @@ pub record IsList (choice : Choice) (list : FormulaListValue) : Type 0 where
   pub in_window : All (InWindow (window_at choice list)) list.formulas
   pub rising : AllPairs (λ first later. formula_cmp first later ≡ Less) list.formulas
 
--- the lists of the selected peaks: by falling m/z, with intervals that are disjoint and wholly below the precursor's, each of
--- some intensity
+-- the lists of the selected peaks: by falling m/z, with intervals that are disjoint and wholly below the precursor's,
+-- each of some intensity
 pub record ArePeakLists (choice : Choice) (precursor : ℕ) (lists : List FormulaListValue) : Type 0 where
   pub falling : AllPairs (λ one later. later.mz < one.mz) lists
   pub apart : AllPairs (λ one later. AreApart choice one.mz later.mz) lists

@@ -1,5 +1,5 @@
--- The graph of a candidate, after the fragmentation graph of Böcker and Rasche 2008: an edge wherever one formula is a proper part of
--- another, and a score for each loss.
+-- The graph of a candidate, after the fragmentation graph of Böcker and Rasche 2008: an edge wherever one formula is a
+-- proper part of another, and a score for each loss.
 use Rattle.std.specs.Prelude.{◌≡◌, ◌<◌, ℕ, ℤ, pos, ◌+ℤ◌, ◌-ℤ◌, List, length, map, slice_index_or, []}
 use Rattle.std.specs.Int.RustNames.{unsigned_abs}
 use Rattle.std.specs.List.{All, filter, flat_map, range_with_len}
@@ -43,7 +43,8 @@ edges_to choice scores lists vertices head =
       head = head;
       weight = weight_of choice scores lists (vertex_at vertices tail) (vertex_at vertices head);
     })
-    (filter (λ tail. is_proper_part (vertex_at vertices head).formula (vertex_at vertices tail).formula) (range_with_len 0 (length vertices)))
+    (filter (λ tail. is_proper_part (vertex_at vertices head).formula (vertex_at vertices tail).formula)
+    (range_with_len 0 (length vertices)))
 
 -- the graph over some vertices
 abbrev pub graph_over : Choice → ScoresValue → List ℕ → List FormulaListValue → List Vertex → Graph

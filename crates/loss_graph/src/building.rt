@@ -24,8 +24,8 @@ use element_table::{
 use score_tables::Scores;
 use std::alloc::{AllocError, Global};
 
-/// The graph of a candidate over the lists of a spectrum: the precursor's, which holds the candidate with what the adduct adds,
-/// and then those of the selected peaks by falling m/z. A graph of more than 512 vertices is not built.
+/// The graph of a candidate over the lists of a spectrum: the precursor's, which holds the candidate with what the
+/// adduct adds, and then those of the selected peaks by falling m/z. A graph of more than 512 vertices is not built.
 pub fn build(
     alloc: Global,
     lists: &[FormulaList],

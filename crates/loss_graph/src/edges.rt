@@ -41,7 +41,8 @@ pub(crate) fn add_edges_to(
     requires near { IsNearZero (2 * 10000) base }
     requires colours { builder.old.colours ≡ colours_at vertices.now }
     requires before { All (λ edge. edge.head < head) builder.old.edges }
-    ensures { IfOk result (λ _. builder.new ≡ with_edges builder.old (edges_below scores.now vertices.now base head head)) }
+    ensures { IfOk result (λ _.
+        builder.new ≡ with_edges builder.old (edges_below scores.now vertices.now base head head)) }
 {
     for tail in 0..head {
         if is_proper_part(&vertices[head].formula, &vertices[tail].formula) {

@@ -34,7 +34,8 @@ pub(crate) fn gather(
     ensures formulas { IfOk result (λ _. (number : ℕ) → 0 < number → number < length lists.now
         → All IsFormula (list_at lists.now number).formulas) }
     ensures gathered { IfOk result (λ gathered.
-        AreGathered root.now lists.now (peaks_of root.now lists.now) gathered.count gathered.vertices.items gathered.peaks.items) }
+        AreGathered root.now lists.now (peaks_of root.now lists.now)
+        gathered.count gathered.vertices.items gathered.peaks.items) }
 {
     let mut vertices = Vec::new(alloc);
     vertices.push(Vertex {
@@ -61,7 +62,8 @@ impl Gathered {
         requires short { length formulas.now ≤ greatest_list }
         requires room { self.old.count + greatest_list < 2 ^ 32 }
         ensures { IfOk result (λ _. Adds root.now peak formulas.now
-            self.old.count self.old.vertices.items self.old.peaks.items self.new.count self.new.vertices.items self.new.peaks.items) }
+            self.old.count self.old.vertices.items self.old.peaks.items
+            self.new.count self.new.vertices.items self.new.peaks.items) }
     {
         let colour = self.peaks.len() as u16 + 1;
         let before = self.count;

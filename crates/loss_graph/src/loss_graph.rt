@@ -36,8 +36,8 @@ impl PeakNumbers {
     }
 }
 
-/// The graph of a candidate: the formula of each vertex, and for each colour, from 1 on, the number of its list. The formula of
-/// each edge's head is a proper part of its tail's.
+/// The graph of a candidate: the formula of each vertex, and for each colour, from 1 on, the number of its list. The
+/// formula of each edge's head is a proper part of its tail's.
 #[derive(Debug, Drop)]
 pub struct LossGraph {
     pub graph: ColourGraph,
@@ -52,7 +52,8 @@ impl Model for LossGraph {
 
     ghost view = { λ built. record { graph = built.graph; formulas = built.formulas; peaks = built.peaks } };
 
-    ghost invariant = { λ built. IsLossGraph (record { graph = built.graph; formulas = built.formulas; peaks = built.peaks }) };
+    ghost invariant = { λ built.
+        IsLossGraph (record { graph = built.graph; formulas = built.formulas; peaks = built.peaks }) };
 }
 
 impl LossGraph {

@@ -6,8 +6,8 @@ ghost use Rattle.element_table.specs.Formula as formulas;
 use colour_graph::Colour;
 use element_table::Formula;
 
-/// A vertex: its formula, the number of its list, from 1 on for those of peaks, and its colour. The root is of list 0 and of
-/// colour 0.
+/// A vertex: its formula, the number of its list, from 1 on for those of peaks, and its colour. The root is of list 0
+/// and of colour 0.
 #[derive(Clone, Copy, Debug)]
 pub(crate) struct Vertex {
     pub(crate) formula: Formula,

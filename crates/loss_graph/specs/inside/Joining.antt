@@ -10,15 +10,17 @@ use Rattle.loss_graph.specs.LossGraph.{greatest_graph}
 use Rattle.loss_graph.specs.Vertices.{vertex_at}
 use Rattle.loss_graph.specs.declared.vertex.Vertex.{Vertex}
 
--- The vertices stand in order of their colours, 0 for the root alone and without a gap, and every edge between them goes to a later
--- vertex of a greater colour.
+-- The vertices stand in order of their colours, 0 for the root alone and without a gap, and every edge between them
+-- goes to a later vertex of a greater colour.
 pub record CanJoin (vertices : List Vertex) : Type 0 where
   pub some : 0 < length vertices
   pub few : length vertices ≤ greatest_graph
   pub root : (vertex_at vertices 0).colour ≡ 0
   pub others : (place : ℕ) → 0 < place → place < length vertices → 0 < (vertex_at vertices place).colour
-  pub in_order : (one later : ℕ) → one < later → later < length vertices → (vertex_at vertices one).colour ≤ (vertex_at vertices later).colour
-  pub no_gap : (place : ℕ) → place + 1 < length vertices → (vertex_at vertices (place + 1)).colour ≤ (vertex_at vertices place).colour + 1
+  pub in_order : (one later : ℕ) → one < later → later < length vertices
+      → (vertex_at vertices one).colour ≤ (vertex_at vertices later).colour
+  pub no_gap : (place : ℕ) → place + 1 < length vertices
+      → (vertex_at vertices (place + 1)).colour ≤ (vertex_at vertices place).colour + 1
   pub heads : (tail head : ℕ) → tail < length vertices → head < length vertices
       → is_proper_part (vertex_at vertices head).formula (vertex_at vertices tail).formula ≡ true → tail < head
   pub rising : (tail head : ℕ) → tail < length vertices → head < length vertices
@@ -37,7 +39,8 @@ edge_between scores vertices base head tail = record {
 abbrev pub edges_below : ScoresValue → List Vertex → ℤ → ℕ → ℕ → List Edge
 edges_below scores vertices base head past =
     map (edge_between scores vertices base head)
-    (filter (λ tail. is_proper_part (vertex_at vertices head).formula (vertex_at vertices tail).formula) (range_with_len 0 past))
+    (filter (λ tail. is_proper_part (vertex_at vertices head).formula (vertex_at vertices tail).formula)
+    (range_with_len 0 past))
 
 abbrev pub colours_at : List Vertex → List ℕ
 colours_at vertices = map (λ vertex. vertex.colour) vertices

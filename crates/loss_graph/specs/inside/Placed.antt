@@ -18,4 +18,5 @@ pub record IsPart (choice : Choice) (root : List ℕ) (lists : List FormulaListV
 
 -- one vertex before another: of the same list and colour, or of an earlier list and a smaller colour
 abbrev pub ComesBefore : Vertex → Vertex → Type 0
-ComesBefore one later = ((one.peak ≡ later.peak) × (one.colour ≡ later.colour)) ⊎ ((one.peak < later.peak) × (one.colour < later.colour))
+ComesBefore one later =
+    ((one.peak ≡ later.peak) × (one.colour ≡ later.colour)) ⊎ ((one.peak < later.peak) × (one.colour < later.colour))
