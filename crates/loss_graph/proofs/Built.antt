@@ -1,19 +1,18 @@
 -- What the graph of a candidate is: a formula for each vertex, a list for each colour, and edges between a whole and its proper parts.
-use Rattle.std.proofs.Common.{◌≡◌, ◌+◌, ◌-◌, ◌<◌, ◌≤◌, ◌∙◌, ℕ, zero, suc, Bool, true, false, cond, pos, List, [], ◌∷◌, ◌++◌, length, map, get_or, ap, sym, refl, arith}
+use Rattle.std.proofs.Common.{◌≡◌, ◌+◌, ◌-◌, ◌<◌, ◌≤◌, ◌∙◌, ℕ, zero, suc, Bool, true, false, cond, List, [], ◌∷◌, length, map, get_or, ap, sym, refl, arith}
 use Rattle.std.proofs.lemmas.List.{get_or-map, length-map}
 use Rattle.std.proofs.lemmas.List.Elements.{All-append, All-cons, All-map, All-nil}
 use Rattle.std.specs.List.{All, filter, flat_map, range_with_len}
 use Rattle.adducts.specs.declared.choice.Choice.{Choice}
 use Rattle.colour_graph.specs.Graph.{Graph, colour_count}
 use Rattle.colour_graph.specs.declared.edge.Edge.{Edge}
-use Rattle.element_table.specs.Formula.{IsFormula, IsProperPart, is_proper_part}
+use Rattle.element_table.specs.Formula.{IsFormula, IsProperPart}
 use Rattle.element_table.specs.FormulaList.{FormulaListValue}
 use Rattle.score_tables.specs.Tables.{ScoresValue}
-use Rattle.loss_graph.specs.LossGraph.{IsLossGraph, LossGraphValue, edges_to, formula_at, graph_over, greatest_graph, head_score_of, loss_graph_of}
+use Rattle.loss_graph.specs.LossGraph.{IsLossGraph, LossGraphValue, edges_to, formula_at, graph_over, head_score_of, loss_graph_of}
 use Rattle.loss_graph.specs.Vertices.{peaks_of, root_vertex, vertex_at, vertices_of}
 use Rattle.loss_graph.specs.declared.vertex.Vertex.{Vertex}
 use Rattle.loss_graph.specs.inside.Joining.{edge_between}
-use Rattle.loss_graph.specs.inside.Placed.{IsPart}
 use Rattle.loss_graph.proofs.Chain.{AreColours-peaks, last_of}
 use Rattle.loss_graph.proofs.Facts.{Known, later_vertices, part_of_vertices}
 use Rattle.loss_graph.proofs.Joining.{colour_at, is_tail, length-colours}

@@ -1,10 +1,10 @@
 -- Vertices follow one another, colour by colour.
-use Rattle.std.proofs.Common.{◌≡◌, ◌+◌, ◌-◌, ◌<◌, ◌≤◌, ◌∙◌, ◌⊎◌, inl, inr, ℕ, zero, suc, Bool, true, false, cond, List, [], ◌∷◌, ◌++◌, length, map, get_or, ap, sym, refl, ltb, arith}
-use Rattle.std.proofs.lemmas.Bool.{cases_Bool, ltb-true}
+use Rattle.std.proofs.Common.{◌≡◌, ◌+◌, ◌-◌, ◌<◌, ◌≤◌, ◌∙◌, inl, inr, ℕ, zero, suc, Bool, true, false, cond, List, [], ◌∷◌, ◌++◌, length, map, refl, arith}
+use Rattle.std.proofs.lemmas.Bool.{ltb-true}
 use Rattle.std.specs.List.{AllByRecursion, enumerate_from, filter, flat_map, range_with_len}
 use Rattle.element_table.specs.FormulaList.{FormulaListValue}
 use Rattle.loss_graph.specs.Lists.{list_at}
-use Rattle.loss_graph.specs.Vertices.{has_part, parts_in, peaks_of, root_vertex, vertex_at, vertex_in, vertices_from, vertices_of, vertices_of_colour}
+use Rattle.loss_graph.specs.Vertices.{has_part, parts_in, peaks_of, vertex_at, vertex_in, vertices_of_colour}
 use Rattle.loss_graph.specs.declared.vertex.Vertex.{Vertex}
 use Rattle.loss_graph.specs.inside.Placed.{ComesBefore}
 

@@ -1,16 +1,14 @@
 -- Worked examples, computed: the graph of caffeine over three lists, and a ladder of carbon.
-use Rattle.std.proofs.Common.{◌≡◌, ◌+◌, ◌-◌, ◌*◌, ℕ, ℤ, pos, neg_ℤ, true, List, [], ◌∷◌, ◌++◌, length, map, refl}
+use Rattle.std.proofs.Common.{◌≡◌, ◌+◌, ◌-◌, ◌*◌, ℕ, ℤ, pos, neg_ℤ, true, List, [], ◌∷◌, length, map, refl}
 use Rattle.std.specs.List.{range_with_len}
-use Rattle.adducts.specs.Adduct.{AdductValue}
 use Rattle.adducts.specs.declared.choice.Choice.{Choice}
-use Rattle.colour_graph.specs.Graph.{Graph, colour_count}
 use Rattle.colour_graph.specs.declared.edge.Edge.{Edge}
 use Rattle.element_table.specs.Formula.{empty_formula}
 use Rattle.element_table.specs.FormulaList.{FormulaListValue}
 use Rattle.score_tables.specs.Default.{atoms, default_scores}
 use Rattle.loss_graph.specs.Lists.{greatest_intensity}
-use Rattle.loss_graph.specs.LossGraph.{LossGraphValue, loss_graph_of}
-use Rattle.loss_graph.specs.Vertices.{peaks_of, vertices_of}
+use Rattle.loss_graph.specs.LossGraph.{loss_graph_of}
+use Rattle.loss_graph.specs.Vertices.{vertices_of}
 
 abbrev choice : Choice
 choice = record { adduct = record { plus = true; shift = pos 10072764; extra = empty_formula; bound = neg_ℤ (pos 1) }; ppm = 10; abs = 10000; peaks = 12 }

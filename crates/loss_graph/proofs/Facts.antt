@@ -1,18 +1,18 @@
 -- Where edges go: the two facts that give every edge a greater colour. Every atom is heavier than twice the greatest half-width, and
 -- the intervals of lists are disjoint.
-use Rattle.std.proofs.Common.{◌≡◌, ◌≢◌, ◌+◌, ◌-◌, ◌*◌, ◌<◌, ◌≤◌, ◌∙◌, ◌⊎◌, inl, inr, ℕ, zero, suc, ℤ, pos, ◌+ℤ◌, ◌-ℤ◌, ◌≤ℤ◌, Bool, true, false, List, [], ◌∷◌, ◌++◌, length, map, drop, get_or, min, ap, sym, refl, subst, cond, arith}
+use Rattle.std.proofs.Common.{◌≡◌, ◌+◌, ◌-◌, ◌*◌, ◌<◌, ◌≤◌, ◌∙◌, ◌⊎◌, inl, inr, ℕ, zero, suc, ℤ, pos, ◌+ℤ◌, ◌-ℤ◌, ◌≤ℤ◌, Bool, true, false, List, [], ◌∷◌, length, drop, get_or, min, ap, refl, cond, arith}
 use Rattle.std.specs.Prelude.{◌↔◌, IsTrue}
 use Rattle.std.proofs.lemmas.Bool.{cases_lt}
 use Rattle.std.proofs.lemmas.Int.{ints}
 use Rattle.std.proofs.lemmas.List.{get_or-drop, length-drop}
 use Rattle.std.proofs.lemmas.List.Elements.{recursion_from_All}
-use Rattle.std.specs.List.{All, AllPairs, AllByRecursion, Contains, enumerate_from, filter, flat_map}
+use Rattle.std.specs.List.{All, AllByRecursion, enumerate_from, filter, flat_map}
 use Rattle.adducts.specs.Selected.{AreApart}
 use Rattle.adducts.specs.declared.choice.Choice.{Choice}
-use Rattle.element_table.specs.Formula.{IsFormula, IsProperPart, IsWithin, is_proper_part, mass_of}
+use Rattle.element_table.specs.Formula.{IsFormula, IsProperPart, is_proper_part, mass_of}
 use Rattle.element_table.specs.FormulaList.{FormulaListValue}
-use Rattle.element_table.specs.Window.{InInterval, InWindow, Window, greatest_half_width, half_width_of}
-use Rattle.loss_graph.specs.Lists.{AreLists, IsList, list_at, window_at}
+use Rattle.element_table.specs.Window.{InWindow, Window, greatest_half_width, half_width_of}
+use Rattle.loss_graph.specs.Lists.{AreLists, list_at, window_at}
 use Rattle.loss_graph.specs.LossGraph.{greatest_graph}
 use Rattle.loss_graph.specs.Vertices.{parts_in, peaks_of, root_vertex, vertex_at, vertex_in, vertices_of, vertices_of_colour}
 use Rattle.loss_graph.specs.declared.vertex.Vertex.{Vertex}

@@ -1,12 +1,10 @@
 -- How edges are joined head by head, and what scores of heads need.
-use Rattle.std.proofs.Common.{◌≡◌, ◌+◌, ◌-◌, ◌<◌, ◌≤◌, ◌^◌, ◌∙◌, ℕ, zero, suc, ℤ, List, [], ◌∷◌, ◌++◌, length, map, drop, max, get_or, ap, sym, refl, arith}
-use Rattle.std.specs.Prelude.{fold}
-use Rattle.std.proofs.lemmas.List.{append-nil, flat_map_more, get_or-drop, get_or-map, length-drop, length-map}
+use Rattle.std.proofs.Common.{◌≡◌, ◌+◌, ◌-◌, ◌<◌, ◌≤◌, ◌^◌, ◌∙◌, ℕ, ℤ, List, [], length, map, drop, get_or, ap, sym, arith}
+use Rattle.std.proofs.lemmas.List.{flat_map_more, get_or-drop, get_or-map, length-drop, length-map}
 use Rattle.std.proofs.lemmas.List.Elements.{All-append, All-map, All-weaker}
-use Rattle.std.specs.List.{All, filter, flat_map, range_with_len}
+use Rattle.std.specs.List.{filter, flat_map, range_with_len}
 use Rattle.adducts.specs.declared.choice.Choice.{Choice}
 use Rattle.colour_graph.specs.Graph.{Graph}
-use Rattle.colour_graph.specs.declared.edge.Edge.{Edge}
 use Rattle.element_table.specs.FormulaList.{FormulaListValue}
 use Rattle.score_tables.specs.Tables.{ScoresValue}
 use Rattle.loss_graph.specs.Lists.{AreLists, greatest_intensity, list_at}

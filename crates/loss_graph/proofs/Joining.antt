@@ -1,13 +1,13 @@
 -- How vertices and edges are joined to a graph, one after another.
-use Rattle.std.proofs.Common.{◌≡◌, ◌+◌, ◌-◌, ◌*◌, ◌<◌, ◌≤◌, ◌∙◌, ◌⊎◌, inl, inr, ℕ, zero, suc, ℤ, pos, negsuc, ◌+ℤ◌, ◌≤ℤ◌, Bool, true, false, cond, List, [], ◌∷◌, ◌++◌, length, map, take, get_or, ap, sym, refl, arith}
-use Rattle.std.proofs.lemmas.Bool.{cases_eq, cases_lt, false_from_ne_true}
+use Rattle.std.proofs.Common.{◌≡◌, ◌+◌, ◌-◌, ◌*◌, ◌<◌, ◌≤◌, ◌∙◌, ℕ, zero, suc, ℤ, pos, ◌+ℤ◌, Bool, true, false, cond, List, [], ◌∷◌, ◌++◌, length, map, take, get_or, ap, sym, refl, arith}
+use Rattle.std.proofs.lemmas.Bool.{false_from_ne_true}
 use Rattle.std.proofs.lemmas.Int.{ints}
-use Rattle.std.proofs.lemmas.List.{append_assoc, append-nil, flat_map_more, get_or-map, get_or-take, get_or_default, length-map, length-take-le, map_more, map-append, map-id, take_all}
+use Rattle.std.proofs.lemmas.List.{append_assoc, append-nil, get_or-map, get_or-take, get_or_default, length-map, length-take-le, map_more, map-append, map-id}
 use Rattle.std.proofs.lemmas.List.Elements.{All-push, All-weaker, filter-append}
 use Rattle.std.proofs.lemmas.List.FromFn.{map-range_with_len_more}
-use Rattle.std.specs.List.{All, AllByRecursion, filter, flat_map, range_with_len}
+use Rattle.std.specs.List.{All, filter, range_with_len}
 use Rattle.colour_graph.specs.Building.{ComesNext, root_alone, with_edge, with_vertex}
-use Rattle.colour_graph.specs.Graph.{Graph, IsEdge, IsScore, StandsBefore, colour_count, colour_of, edge_at}
+use Rattle.colour_graph.specs.Graph.{Graph, IsEdge, IsScore, colour_count}
 use Rattle.colour_graph.specs.declared.edge.Edge.{Edge}
 use Rattle.element_table.specs.Formula.{is_proper_part, loss_of}
 use Rattle.element_table.specs.Rule.{IsNearZero}

@@ -1,6 +1,6 @@
 -- The graph of a candidate, after the fragmentation graph of Böcker and Rasche 2008: an edge wherever one formula is a
 -- proper part of another, and a score for each loss.
-use Rattle.std.specs.Prelude.{◌≡◌, ◌<◌, ℕ, ℤ, pos, ◌+ℤ◌, ◌-ℤ◌, List, length, map, slice_index_or, []}
+use Rattle.std.specs.Prelude.{◌≡◌, ℕ, ℤ, pos, ◌+ℤ◌, ◌-ℤ◌, List, length, map, slice_index_or, []}
 use Rattle.std.specs.Int.RustNames.{unsigned_abs}
 use Rattle.std.specs.List.{All, filter, flat_map, range_with_len}
 use Rattle.adducts.specs.declared.choice.Choice.{Choice}

@@ -3,6 +3,7 @@ ghost use Rattle.std.specs.Prelude.{◌≡◌, ◌≤◌, ◌<◌, ◌*◌, ◌^
 ghost use Rattle.std.specs.List.{All};
 ghost use Rattle.element_table.specs.Rule.{IsNearZero};
 ghost use Rattle.element_table.specs.Window.{InWindow};
+ghost use Rattle.loss_graph.specs.Lists.{list_at, window_at};
 ghost use Rattle.loss_graph.specs.Lists as of_lists;
 ghost use Rattle.loss_graph.specs.LossGraph.{error_score_in, head_score_of};
 
@@ -31,7 +32,7 @@ pub(crate) fn error_score(
     formula: &Formula,
 ) -> i32
     requires measured { list.now.mz ≤ 10 ^ 18 }
-    requires in_window { InWindow (of_lists.window_at choice.now list.now) formula.now }
+    requires in_window { InWindow (window_at choice.now list.now) formula.now }
     ensures score { result ≡ error_score_in choice.now scores.now list.now formula.now }
     ensures near { IsNearZero 10000 result }
 {
@@ -49,10 +50,10 @@ pub(crate) fn head_score(
     head: &Vertex,
 ) -> i32
     requires list { head.now.peak < length lists.now }
-    requires measured { (of_lists.list_at lists.now head.now.peak).mz ≤ 10 ^ 18 }
-    requires in_window { InWindow (of_lists.window_at choice.now (of_lists.list_at lists.now head.now.peak)) head.now.formula }
-    requires intense { 1 ≤ (of_lists.list_at lists.now head.now.peak).intensity }
-    requires weaker { (of_lists.list_at lists.now head.now.peak).intensity ≤ greatest }
+    requires measured { (list_at lists.now head.now.peak).mz ≤ 10 ^ 18 }
+    requires in_window { InWindow (window_at choice.now (list_at lists.now head.now.peak)) head.now.formula }
+    requires intense { 1 ≤ (list_at lists.now head.now.peak).intensity }
+    requires weaker { (list_at lists.now head.now.peak).intensity ≤ greatest }
     requires greatest { greatest ≡ of_lists.greatest_intensity lists.now }
     requires small { greatest ≤ 10 ^ 18 }
     ensures score { result ≡ head_score_of choice.now scores.now lists.now head.now }

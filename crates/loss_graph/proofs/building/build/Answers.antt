@@ -1,7 +1,6 @@
-use Rattle.std.proofs.Common.{◌≡◌, ◌+◌, ◌<◌, ◌≤◌, ◌∙◌, ℕ, List, ap, arith, length, map, sym, subst}
-use Rattle.loss_graph.specs.Lists.{AreLists, root_of}
-use Rattle.loss_graph.specs.LossGraph.{IsLossGraph, LossGraphValue, graph_over, loss_graph_of}
-use Rattle.loss_graph.specs.Vertices.{peaks_of, vertex_at, vertices_of}
+use Rattle.std.proofs.Common.{◌≡◌, ◌∙◌, ap, arith, map}
+use Rattle.loss_graph.specs.LossGraph.{graph_over}
+use Rattle.loss_graph.specs.Vertices.{vertex_at, vertices_of}
 use Rattle.loss_graph.proofs.Built.{is_built}
 use Rattle.loss_graph.proofs.Facts.{CanJoin-vertices, Known, part_of_vertices}
 use Rattle.loss_graph.proofs.building.build.Goals as goal

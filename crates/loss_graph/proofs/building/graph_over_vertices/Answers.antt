@@ -1,11 +1,11 @@
-use Rattle.std.proofs.Common.{◌≡◌, ◌+◌, ◌<◌, ◌≤◌, ◌∙◌, ℕ, List, [], ◌++◌, ap, arith, get_or, length, sym, to_z, of_z, w32}
+use Rattle.std.proofs.Common.{◌≡◌, ◌∙◌, [], ◌++◌, ap, arith, get_or, length, sym, to_z, of_z, w32}
 use Rattle.std.proofs.lemmas.Int.{to_z-of_z}
 use Rattle.std.proofs.lemmas.List.{get_or_default}
 use Rattle.std.specs.List.{flat_map, range_with_len}
 use Rattle.loss_graph.specs.Lists.{list_at}
 use Rattle.loss_graph.specs.LossGraph.{edges_to, error_score_in, head_score_of}
 use Rattle.loss_graph.specs.Vertices.{vertex_at}
-use Rattle.loss_graph.specs.inside.Joining.{colours_at, with_edges, without_edges}
+use Rattle.loss_graph.specs.inside.Joining.{with_edges, without_edges}
 use Rattle.loss_graph.proofs.Heads.{edges_to-root, greatest-small, heads-more, heads_below-more, intense-at, intensity-le}
 use Rattle.loss_graph.proofs.building.graph_over_vertices.Goals as goal
 

@@ -1,5 +1,5 @@
 use Rattle.std.proofs.Common.{◌≡◌}
-use Rattle.std.specs.List.{All, flat_map, range_with_len}
+use Rattle.std.specs.List.{flat_map, range_with_len}
 use Rattle.loss_graph.specs.LossGraph.{edges_to}
 use Rattle.loss_graph.specs.inside.Joining.{with_edges, without_edges}
 use Rattle.loss_graph.proofs.Joining.{HeadsBelow}

@@ -1,8 +1,7 @@
-use Rattle.std.proofs.Common.{◌≡◌, ◌∙◌, List, ℕ, [], ap, arith, sym}
+use Rattle.std.proofs.Common.{◌≡◌, ◌∙◌, [], ap}
 use Rattle.std.proofs.lemmas.List.{get_or_default}
 use Rattle.std.proofs.lemmas.List.Elements.{All-contains}
-use Rattle.std.specs.List.{All}
-use Rattle.element_table.specs.Formula.{IsFormula, union_of}
+use Rattle.element_table.specs.Formula.{IsFormula}
 use Rattle.loss_graph.specs.Lists.{list_at, root_of}
 use Rattle.loss_graph.proofs.Weights.{union-capped}
 use Rattle.loss_graph.proofs.building.root_formula.Goals as goal

@@ -1,10 +1,10 @@
-use Rattle.std.proofs.Common.{◌≡◌, ◌+◌, ◌-◌, ◌<◌, ◌∙◌, ◌+ℤ◌, ℕ, [], ap, arith, get_or, length, sym, to_z, of_z, w32, true, false}
+use Rattle.std.proofs.Common.{◌≡◌, ◌<◌, ◌∙◌, ◌+ℤ◌, [], ap, arith, get_or, length, sym, to_z, of_z, w32, true, false}
 use Rattle.std.proofs.lemmas.Int.{to_z-of_z}
 use Rattle.std.proofs.lemmas.List.{get_or_default}
 use Rattle.element_table.specs.Formula.{is_proper_part, loss_of}
 use Rattle.score_tables.specs.Scores.{loss_score_of}
 use Rattle.loss_graph.specs.Vertices.{vertex_at}
-use Rattle.loss_graph.specs.inside.Joining.{edge_between, with_edges}
+use Rattle.loss_graph.specs.inside.Joining.{edge_between}
 use Rattle.loss_graph.proofs.Joining.{below-added, below-more, comes-next, edge-fits, joined-more, joined-same, test-is, weight-is}
 use Rattle.loss_graph.proofs.edges.add_edges_to.Goals as goal
 use Rattle.loss_graph.proofs.edges.add_edges_to.Goals.{then-is_proper_part+in_ok-edge, else-is_proper_part}

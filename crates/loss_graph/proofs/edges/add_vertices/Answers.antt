@@ -1,10 +1,7 @@
-use Rattle.std.proofs.Common.{◌≡◌, ◌+◌, ◌-◌, ◌∙◌, ℕ, [], ap, arith, get_or, take}
-use Rattle.std.proofs.lemmas.List.{get_or_default, take_all}
-use Rattle.colour_graph.specs.Building.{with_vertex}
+use Rattle.std.proofs.Common.{◌≡◌, ◌+◌, ◌-◌, ◌∙◌, [], ap, arith}
+use Rattle.std.proofs.lemmas.List.{get_or_default}
 use Rattle.colour_graph.specs.Graph.{colour_count}
-use Rattle.loss_graph.specs.Vertices.{vertex_at}
-use Rattle.loss_graph.specs.inside.Joining.{without_edges}
-use Rattle.loss_graph.proofs.Joining.{colour_count-taken, taken-more, taken-one}
+use Rattle.loss_graph.proofs.Joining.{colour_count-taken}
 use Rattle.loss_graph.proofs.edges.add_vertices.Goals as goal
 
 pub vertex-requires-clause-not_root : goal.vertex-requires-clause-not_root

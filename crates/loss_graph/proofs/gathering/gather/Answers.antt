@@ -1,9 +1,5 @@
-use Rattle.std.proofs.Common.{◌≡◌, ◌+◌, ◌-◌, ◌≤◌, ◌<◌, ◌∙◌, ◌⊎◌, inl, inr, ℕ, List, [], ap, arith, get_or, length, sym}
-use Rattle.std.proofs.lemmas.Bool.{cases_lt}
+use Rattle.std.proofs.Common.{◌≡◌, ◌+◌, ◌-◌, ◌∙◌, [], ap, arith}
 use Rattle.std.proofs.lemmas.List.{get_or_default}
-use Rattle.std.specs.List.{All}
-use Rattle.element_table.specs.Formula.{IsFormula, is_proper_part}
-use Rattle.element_table.specs.FormulaList.{FormulaListValue}
 use Rattle.loss_graph.specs.Lists.{list_at}
 use Rattle.loss_graph.proofs.OneMoreList.{AreGathered-more, adds-few, all_formulas-more}
 use Rattle.loss_graph.proofs.gathering.gather.Goals as goal
