@@ -19,7 +19,7 @@ use Rattle.fragment_run.specs.declared.status.Status.TheVariants.{Done, Memory, 
 use Rattle.fragment_run.specs.Orders.{ListNames}
 use Rattle.fragment_run.specs.ProfilePromise.{outcome_of}
 use Rattle.fragment_run.specs.inside.ProfileTaken.{IsTaken}
-use Rattle.fragment_run.proofs.Reports.{part_of}
+use Rattle.fragment_run.proofs.IsReport.{part_of}
 use Rattle.fragment_run.proofs.Running.{at_some}
 
 -- what is owed where nothing was written, and neither an answer nor a failed write is told

@@ -2,7 +2,7 @@ use Rattle.std.proofs.Common.{◌∙◌, List, arith, sym, subst}
 use Rattle.std.specs.List.{All}
 use Rattle.mgf_reader.specs.Spectrum.{PeakValue}
 use Rattle.adducts.specs.Selected.{LiesBelow}
-use Rattle.fragment_run.proofs.Below.{less_from_below}
+use Rattle.fragment_run.proofs.LiesBelow.{less_from_below}
 use Rattle.fragment_run.proofs.outline.read_outline.Goals as goal
 
 pub explain-requires-clause-below : goal.explain-requires-clause-below

@@ -1,5 +1,5 @@
 use Rattle.std.proofs.Common.{ap, length, arith}
-use Rattle.fragment_run.proofs.Reports.{pushed_none, pushed_more, pushed_all}
+use Rattle.fragment_run.proofs.IsReport.{pushed_none, pushed_more, pushed_all}
 use Rattle.fragment_run.proofs.list.report.push_sections.Goals as goal
 
 pub loop-spectrum-init : goal.loop-spectrum-init

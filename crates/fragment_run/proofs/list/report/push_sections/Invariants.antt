@@ -1,6 +1,6 @@
 use Rattle.std.proofs.Common.{length}
 use Rattle.fragment_run.specs.inside.SettingsOf.{settings_value_of}
-use Rattle.fragment_run.proofs.Reports.{Pushed}
+use Rattle.fragment_run.proofs.IsReport.{Pushed}
 use Rattle.fragment_run.proofs.list.report.push_sections.Given as goal
 
 abbrev pub invariant-loop-spectrum : goal.invariant-loop-spectrum

@@ -1,5 +1,5 @@
 use Rattle.std.proofs.Common.{Some, None}
-use Rattle.fragment_run.proofs.Reports.{read_to_end}
+use Rattle.fragment_run.proofs.IsReport.{read_to_end}
 use Rattle.fragment_run.proofs.list.report.read_all.Goals as goal
 
 pub returns-in-Ok : goal.returns-in-Ok

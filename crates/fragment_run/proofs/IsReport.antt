@@ -1,4 +1,4 @@
--- How a text is read to its end, and how its sections follow one another.
+-- `IsReport`: how a text is read to its end, and how its sections follow one another.
 use Rattle.std.proofs.Common.{◌≡◌, ◌≢◌, ◌++◌, ℕ, List, [], ◌∷◌, Bool, false, length, take, drop, Option, Some, None, Result, Err, sym, ◌∙◌, ap, subst, refl, append_assoc, arith, suc, if◌then◌else◌, nat_lt}
 use Rattle.std.proofs.Math.Seq.{take-length}
 use Rattle.std.proofs.lemmas.Bool.Decides.{nat_tests}

@@ -1,4 +1,4 @@
--- An interval that lies below another is that of a smaller m/z.
+-- `LiesBelow`: an interval that lies below another is that of a smaller m/z.
 use Rattle.std.proofs.Common.{ℕ, ◌<◌, arith}
 use Rattle.adducts.specs.declared.choice.Choice.{Choice}
 use Rattle.adducts.specs.Selected.{LiesBelow}
