@@ -73,7 +73,7 @@ const DEFAULT: &str = "10 10000 12 200 0:200 1:100 2:20 3:40 4:3 5:3 neutral";
 #[test]
 fn refuses_at_the_first_fault(rt: HostRuntime) -> Result<(), Fail> {
     let alloc = rt.alloc();
-    let cases: [(&str, &str); 105] = [
+    let cases: [(&str, &str); 66] = [
         // one fault of each kind
         ("pmm = 10", "unknown pmm"),
         ("ppm = 101", "over ppm 101"),
@@ -168,6 +168,28 @@ fn refuses_at_the_first_fault(rt: HostRuntime) -> Result<(), Fail> {
         ("rules = [{}, {parity = \"Even\"}]", "bad rules.1.parity"),
         ("rules = [{apply = \"none\"}]", "bad rules.0.apply"),
         ("rules = [{apply = 1}]", "bad rules.0.apply"),
+        // no element with a positive limit
+        ("elements = {}", "bad elements"),
+        ("elements = {C = 0}", "bad elements"),
+        ("elements = {C = -1}", "bad elements"),
+        ("elements = {C = \"x\"}", "bad elements"),
+        ("elements = {C = true}", "bad elements"),
+        ("elements = {C = \"x\", H = 1}", "bad elements.C"),
+        // a key given twice
+        ("ppm = 1\nppm = 1", "not TOML"),
+        ("[elements]\nC = 1\n[elements]\nH = 1", "not TOML"),
+    ];
+    for (text, told) in cases {
+        let answer = tell(alloc, text.as_bytes())?;
+        assert_eq!(rt; answer.as_str(), told, "at {text}");
+    }
+    Ok(())
+}
+
+#[test]
+fn refuses_wrong_scores(rt: HostRuntime) -> Result<(), Fail> {
+    let alloc = rt.alloc();
+    let cases: [(&str, &str); 39] = [
         // tables of shares
         ("scores = []", "bad scores"),
         ("scores.intensity = {}", "bad scores.intensity"),
@@ -257,16 +279,6 @@ fn refuses_at_the_first_fault(rt: HostRuntime) -> Result<(), Fail> {
         ("scores.size = 1000000001", "over scores.size 1000000001"),
         // a bad value before a number out of range
         ("scores = {size = 1, radical = \"x\"}", "bad scores.radical"),
-        // no element with a positive limit
-        ("elements = {}", "bad elements"),
-        ("elements = {C = 0}", "bad elements"),
-        ("elements = {C = -1}", "bad elements"),
-        ("elements = {C = \"x\"}", "bad elements"),
-        ("elements = {C = true}", "bad elements"),
-        ("elements = {C = \"x\", H = 1}", "bad elements.C"),
-        // a key given twice
-        ("ppm = 1\nppm = 1", "not TOML"),
-        ("[elements]\nC = 1\n[elements]\nH = 1", "not TOML"),
     ];
     for (text, told) in cases {
         let answer = tell(alloc, text.as_bytes())?;
