@@ -1,5 +1,5 @@
 -- The tests of a value by its kind, and the bounds of pairs.
-use Rattle.std.proofs.Common.{◌≡◌, ◌∙◌, ◌≤◌, ◌<◌, ◌+◌, ℕ, suc, Bool, false, ◌&&◌, List, [], ◌∷◌, length, get_or, drop, Option, Some, None, ℤ, refl, ap, sym, arith, w64, FitsSigned, to_z, of_z}
+use Rattle.std.proofs.Common.{◌≡◌, ◌∙◌, ◌≤◌, ◌<◌, ◌+◌, ℕ, suc, Bool, false, ◌&&◌, List, [], ◌∷◌, length, get_or, drop, Some, None, ℤ, refl, ap, sym, arith, w64, FitsSigned, to_z, of_z}
 use Rattle.std.specs.Ordering.{int_eq}
 use Rattle.std.proofs.lemmas.Int.{to_z-of_z}
 use Rattle.std.proofs.lemmas.List.{drop_all}

@@ -1,6 +1,6 @@
 -- The scores of a table of which nothing is refused.
-use Rattle.std.proofs.Common.{◌≡◌, ◌≢◌, ◌∙◌, ◌≤◌, ◌<◌, ◌+◌, ◌≤ℤ◌, ℕ, zero, suc, ℤ, pos, negsuc, Bool, true, false, not, ◌&&◌, ◌||◌, List, [], ◌∷◌, ◌++◌, length, map, Option, Some, None, Result, Ok, Err, refl, sym, ap, subst, arith, codes, nat_le, bytes_eq, if◌then◌else◌, inl, inr}
-use Rattle.std.specs.Prelude.{All, AllPairs, decimal, is_none, is_some, option_and_then, unwrap_or}
+use Rattle.std.proofs.Common.{◌≡◌, ◌≢◌, ◌∙◌, ◌≤◌, ◌+◌, ◌≤ℤ◌, ℕ, zero, suc, ℤ, pos, negsuc, Bool, true, false, not, ◌&&◌, List, [], ◌∷◌, ◌++◌, length, Option, Some, None, Result, Ok, Err, refl, sym, ap, subst, arith, codes, bytes_eq, if◌then◌else◌, inl, inr}
+use Rattle.std.specs.Prelude.{All, AllPairs, decimal, is_some, option_and_then, unwrap_or}
 use Rattle.std.specs.List.{list_any}
 use Rattle.std.specs.Option.{option_map_or}
 use Rattle.std.proofs.lemmas.Bool.{and_parts, cases_lt, lt-leb, not-true}
@@ -15,15 +15,15 @@ use Rattle.score_tables.specs.Default.{default_tables}
 use Rattle.score_tables.specs.Tables.{IsLossTable, IsScores, IsShareTable, LossTable, ShareTable, bounds_of, falls_to_nought, greatest_losses, greatest_pairs, greatest_score, greatest_share, greatest_size, least_size, rises_to_whole}
 use Rattle.toml.specs.Data.{Data, string, integer, float, boolean, datetime, array, table, as_array, as_integer, as_table, get_member, Items, no_items, item, Members, no_members, member}
 use Rattle.profile.specs.Fine.{AreFine, AreFineLosses, AreNearScores, AreShareItems, IsFine, IsShareItem, known_with}
-use Rattle.profile.specs.Form.{Form, Known, scores, intensities, errors, pair, named_losses, implausible_losses, loss, number, score, are_pairs, bound_of, excess_of, has_kind, integer_at, is_pair, item_bounds, item_form, items_len, members_len, too_many}
+use Rattle.profile.specs.Form.{Form, scores, intensities, errors, pair, named_losses, implausible_losses, loss, number, score, are_pairs, bound_of, has_kind, is_pair, item_bounds, item_form, items_len, members_len, too_many}
 use Rattle.profile.specs.Losses.{is_free, key_formula, read_formula, taken_with}
 use Rattle.profile.specs.Places.{place_with, places_of_items, places_of_losses, places_under, point_after}
-use Rattle.profile.specs.Refusal.{bad_at, over_at, refusal_of}
+use Rattle.profile.specs.Refusal.{over_at, refusal_of}
 use Rattle.profile.specs.Table.{number_at}
 use Rattle.profile.specs.Values.{as_count, loss_said, losses_said, shares_said, tables_said}
-use Rattle.profile.specs.declared.fault.ProfileFault.TheVariants.{BadValue, OverLimit}
+use Rattle.profile.specs.declared.fault.ProfileFault.TheVariants.{BadValue}
 use Rattle.profile.proofs.Faults.{first_fine, parts_fine}
-use Rattle.profile.proofs.FineLaws.{fine_array, fine_losses, fine_others, in_range, nothing_told, number_in_range}
+use Rattle.profile.proofs.FineLaws.{fine_array, fine_losses, fine_others, in_range, number_in_range}
 use Rattle.profile.proofs.LimitLaws.{as_count-le, kind_right, pos-as_count}
 
 -- ---- pairs

@@ -1,4 +1,4 @@
-use Rattle.std.proofs.Common.{◌≡◌, ◌∙◌, ◌++◌, ap, []}
+use Rattle.std.proofs.Common.{◌∙◌, ◌++◌, ap, []}
 use Rattle.element_table.specs.Elements.{symbols}
 use Rattle.toml.specs.View.{table_view}
 use Rattle.profile.specs.Form.{whole}

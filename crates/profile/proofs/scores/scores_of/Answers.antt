@@ -1,6 +1,6 @@
 use Rattle.std.proofs.Common.{◌∙◌, subst, sym, rules, w16, FitsSigned}
 use Rattle.std.proofs.lemmas.Int.{to_z-of_z}
-use Rattle.score_tables.specs.Tables.{IsScores, in_formula_order}
+use Rattle.score_tables.specs.Tables.{IsScores}
 use Rattle.toml.specs.View.{table_view}
 use Rattle.profile.proofs.ScoreLaws.{negative_near, radical_near, tables_right, tables_same}
 use Rattle.profile.proofs.scores.scores_of.Goals as goal
