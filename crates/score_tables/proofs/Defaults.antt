@@ -1,5 +1,5 @@
 -- The default tables are right.
-use Rattle.std.proofs.Common.{◌≡◌, ◌≢◌, ◌<◌, ◌≤◌, ℕ, zero, suc, ℤ, pos, Bool, true, false, ◌&&◌, not, List, [], ◌∷◌, length, get_or, drop, refl, sym, ap, arith, All, AllPairs, eqb, leb, ◌+◌, ◌-◌, ◌∙◌, inl, inr}
+use Rattle.std.proofs.Common.{◌≡◌, ◌≢◌, ◌≤◌, ℕ, zero, suc, ℤ, pos, Bool, true, false, ◌&&◌, not, List, [], ◌∷◌, length, get_or, drop, refl, sym, arith, All, AllPairs, eqb, leb, ◌+◌, ◌-◌, ◌∙◌, inl, inr}
 use Rattle.std.specs.Prelude.{bytes_eq, int_le, neg_ℤ}
 use Rattle.std.specs.List.{list_all}
 use Rattle.std.proofs.lemmas.Bool.{and_parts, cases_lt, eqb-true, leb-true, not-true}
@@ -10,7 +10,7 @@ use Rattle.std.proofs.lemmas.Float.{T_from_true}
 use Rattle.element_table.specs.Formula.{IsFormula, empty_formula}
 use Rattle.element_table.specs.Rule.{IsNearZero}
 use Rattle.score_tables.specs.Default.{default_tables, default_intensity, default_error, default_named, default_implausible}
-use Rattle.score_tables.specs.Tables.{bounds_of, IsLossTable, IsScores, IsShareTable, LossTable, ScoresValue, ShareTable, falls_to_nought, greatest_score, rises_to_whole}
+use Rattle.score_tables.specs.Tables.{bounds_of, IsLossTable, IsScores, IsShareTable, LossTable, ShareTable, falls_to_nought, greatest_score, rises_to_whole}
 
 -- what a test of each item says
 all_by_test : {X : Type 0} (test : X → Bool) (P : X → Type 0) → ((item : X) → test item ≡ true → P item) → (items : List X) → list_all test items ≡ true → All P items

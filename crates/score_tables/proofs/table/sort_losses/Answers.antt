@@ -1,7 +1,6 @@
 use Rattle.std.proofs.Common.{rules}
 use Rattle.std.proofs.lemmas.List.Sorted.{answers_always}
 use Rattle.score_tables.proofs.LossTables.{rising_after_sort, sorted_losses_after_sort}
-use Rattle.score_tables.specs.Tables.{LossesRise}
 use Rattle.score_tables.proofs.table.sort_losses.Goals as goal
 
 pub returns-clause-rising : goal.returns-clause-rising

@@ -1,8 +1,7 @@
-use Rattle.std.proofs.Common.{◌≡◌, ◌∙◌, ap, sym, rules, get_or, Some, Err, Ok, w32, FitsSigned}
+use Rattle.std.proofs.Common.{◌∙◌, ap, sym, rules, get_or, Some}
 use Rattle.std.proofs.lemmas.List.Sorted.{answers_always}
 use Rattle.score_tables.proofs.LossTables.{hit, missed}
 use Rattle.score_tables.proofs.NearScores.{kept_score}
-use Rattle.element_table.specs.Formula.{formula_cmp}
 use Rattle.score_tables.proofs.table.table_score.Goals as goal
 
 pub returns-in-Ok-clause-score : goal.returns-in-Ok-clause-score
