@@ -53,7 +53,8 @@ share_of element symbol count = if bytes_eq element symbol then count else 0
 
 -- how many atoms of an element the pieces have in all
 abbrev pub total_of : List (List ℕ) → List ℕ → ℕ
-total_of pieces element = sum_by (λ piece. share_of element (symbol_of piece) (count_of_digits (digits_of piece))) pieces
+total_of pieces element =
+    sum_by (λ piece. share_of element (symbol_of piece) (count_of_digits (digits_of piece))) pieces
 
 -- the same by places; a place without an element has none
 abbrev pub totals_of : List (List ℕ) → List ℕ
