@@ -1,32 +1,13 @@
 -- Worked examples, computed: the graph of caffeine over three lists, and a ladder of carbon.
-use Rattle.std.proofs.Common.{◌≡◌, ◌+◌, ◌-◌, ◌*◌, ℕ, ℤ, pos, neg_ℤ, true, List, [], ◌∷◌, length, map, refl}
+use Rattle.std.proofs.Common.{◌≡◌, ◌+◌, ◌-◌, ◌*◌, ℕ, ℤ, pos, List, [], ◌∷◌, length, map, refl}
 use Rattle.std.specs.List.{range_with_len}
-use Rattle.adducts.specs.declared.choice.Choice.{Choice}
 use Rattle.colour_graph.specs.declared.edge.Edge.{Edge}
-use Rattle.element_table.specs.Formula.{empty_formula}
 use Rattle.element_table.specs.FormulaList.{FormulaListValue}
-use Rattle.score_tables.specs.Default.{atoms, default_scores}
+use Rattle.score_tables.specs.Default.{default_scores}
 use Rattle.loss_graph.specs.Lists.{greatest_intensity}
 use Rattle.loss_graph.specs.LossGraph.{loss_graph_of}
 use Rattle.loss_graph.specs.Vertices.{vertices_of}
-
-abbrev choice : Choice
-choice = record { adduct = record { plus = true; shift = pos 10072764; extra = empty_formula; bound = neg_ℤ (pos 1) }; ppm = 10; abs = 10000; peaks = 12 }
-
--- of so many H, C, N and O
-abbrev formula : ℕ → ℕ → ℕ → ℕ → List ℕ
-formula h c n o = atoms h c n o 0 0 0 0
-
-abbrev caffeine : List ℕ
-caffeine = formula 10 8 4 2
-
--- the list of the precursor, and those of two peaks
-abbrev caffeine_lists : List FormulaListValue
-caffeine_lists =
-    record { mz = 1950877000; intensity = 0; formulas = caffeine ∷ [] }
-    ∷ record { mz = 1380662000; intensity = 1000000000; formulas = formula 7 6 3 1 ∷ formula 9 8 0 2 ∷ [] }
-    ∷ record { mz = 1100713000; intensity = 400000000; formulas = formula 7 5 3 0 ∷ [] }
-    ∷ []
+use Rattle.loss_graph.specs.inside.Worked.{caffeine, caffeine_lists, choice, formula}
 
 abbrev joining : ℕ → ℕ → ℤ → Edge
 joining tail head weight = record { tail = tail; head = head; weight = weight }

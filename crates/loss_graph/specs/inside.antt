@@ -1,3 +1,4 @@
 pub mod Gathered
 pub mod Placed
 pub mod Joining
+pub mod Worked
