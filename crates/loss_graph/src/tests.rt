@@ -3,7 +3,7 @@ ghost use Rattle.std.specs.Prelude.{◌≡◌, ◌≤◌, IfOk};
 ghost use Rattle.element_table.specs.Elements.{greatest_count};
 ghost use Rattle.loss_graph.specs.inside.Worked;
 
-use crate::{GraphFault, build};
+use crate::build;
 use adducts::{Adduct, Choice, by_name};
 use colour_graph::ColourGraph;
 use element_table::{Formula, FormulaList, Formulas};
@@ -65,6 +65,32 @@ fn lone_list(alloc: Global) -> Result<Vec<FormulaList>, AllocError>
     Ok(lists)
 }
 
+/// The lists of glucose: the precursor's, and that of a peak.
+fn glucose_lists(alloc: Global) -> Result<Vec<FormulaList>, AllocError>
+    ensures { IfOk result (λ lists. lists.items ≡ Worked.glucose_lists) }
+{
+    let mut lists = Vec::new(alloc);
+    lists.push(list(alloc, 1_810_707_000, 0, &[formula(12, 6, 0, 6)])?)?;
+    lists.push(list(alloc, 1_630_601_000, 1_000_000_000, &[formula(10, 6, 0, 5)])?)?;
+    Ok(lists)
+}
+
+/// The lists of caffeine: the precursor's, and those of two peaks.
+fn caffeine_lists(alloc: Global) -> Result<Vec<FormulaList>, AllocError>
+    ensures { IfOk result (λ lists. lists.items ≡ Worked.caffeine_lists) }
+{
+    let mut lists = Vec::new(alloc);
+    lists.push(list(alloc, 1_950_877_000, 0, &[formula(10, 8, 4, 2)])?)?;
+    lists.push(list(
+        alloc,
+        1_380_662_000,
+        1_000_000_000,
+        &[formula(7, 6, 3, 1), formula(9, 8, 0, 2)],
+    )?)?;
+    lists.push(list(alloc, 1_100_713_000, 400_000_000, &[formula(7, 5, 3, 0)])?)?;
+    Ok(lists)
+}
+
 /// The edges by their numbers: tail, head and weight.
 fn edges_of(alloc: Global, graph: &ColourGraph) -> Result<Vec<(u16, u16, i32)>, AllocError> {
     let mut edges = Vec::new(alloc);
@@ -92,5 +118,49 @@ fn a_precursor_alone_is_a_root(rt: HostRuntime) -> Result<(), Fail> {
     assert_eq!(rt; built.graph.root_score(), 10);
     assert!(rt; built.formulas.items() == [glucose].as_slice());
     assert_eq!(rt; built.peaks.items().len(), 0);
+    Ok(())
+}
+
+#[test]
+fn glucose_loses_water(rt: HostRuntime) -> Result<(), Fail> {
+    let alloc = rt.alloc();
+    let scores = Scores::default_tables(alloc)?;
+    let lists = glucose_lists(alloc)?;
+    let glucose = formula(12, 6, 0, 6);
+    let Ok(built) = build(alloc, &lists, &glucose, &choice(), &scores) else {
+        return Err(Fail::new("no graph"));
+    };
+    assert_eq!(rt; built.graph.vertex_count(), 2);
+    assert_eq!(rt; built.graph.colour_count(), 1);
+    assert_eq!(rt; built.graph.root_score(), 10);
+    let edges = edges_of(alloc, &built.graph)?;
+    assert!(rt; edges.as_slice() == [(0, 1, 52)].as_slice());
+    assert!(rt; built.formulas.items() == [glucose, formula(10, 6, 0, 5)].as_slice());
+    assert!(rt; built.peaks.items() == [1].as_slice());
+    Ok(())
+}
+
+#[test]
+fn caffeine_has_four_edges(rt: HostRuntime) -> Result<(), Fail> {
+    let alloc = rt.alloc();
+    let scores = Scores::default_tables(alloc)?;
+    let lists = caffeine_lists(alloc)?;
+    let caffeine = formula(10, 8, 4, 2);
+    let Ok(built) = build(alloc, &lists, &caffeine, &choice(), &scores) else {
+        return Err(Fail::new("no graph"));
+    };
+    assert_eq!(rt; built.graph.vertex_count(), 4);
+    assert_eq!(rt; built.graph.colour_count(), 2);
+    assert_eq!(rt; built.graph.root_score(), 10);
+    let edges = edges_of(alloc, &built.graph)?;
+    assert!(rt; edges.as_slice() == [(0, 1, 38), (0, 2, 12), (0, 3, 30), (1, 3, 43)].as_slice());
+    let formulas = [
+        caffeine,
+        formula(7, 6, 3, 1),
+        formula(9, 8, 0, 2),
+        formula(7, 5, 3, 0),
+    ];
+    assert!(rt; built.formulas.items() == formulas.as_slice());
+    assert!(rt; built.peaks.items() == [1, 2].as_slice());
     Ok(())
 }
