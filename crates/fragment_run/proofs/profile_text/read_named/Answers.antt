@@ -1,9 +1,11 @@
-use Rattle.std.proofs.Common.{◌≡◌, ◌⊎◌, ◌++◌, ◌∙◌, [], Some, ap, IfSome, refl, sym, subst}
+use Rattle.std.proofs.Common.{◌≡◌, ◌⊎◌, ◌++◌, ◌∙◌, ℕ, List, [], Option, None, Some, Result, Ok, option_map, ap, IfSome, refl, sym, subst}
 use Rattle.std.proofs.lemmas.Option.{IfSome_then}
 use Rattle.std.proofs.lemmas.Result.{err_from_is_err_and}
 use Rattle.frag_io.specs.declared.desk.Slot.TheVariants.{Profile}
 use Rattle.fragment_run.specs.Begins.{profile_begin}
+use Rattle.profile.specs.Profile.{ProfileValue}
 use Rattle.profile.specs.ProfileOf.{profile_of}
+use Rattle.profile.specs.declared.fault.ProfileFault.{ProfileFault}
 use Rattle.fragment_run.specs.Class.{class_of, memory, IsOfProfile}
 use Rattle.fragment_run.specs.ProfilePromise.{ProfilePromise}
 use Rattle.fragment_run.specs.inside.Running.{Ends}
@@ -46,6 +48,27 @@ returns-in_err-text-clause-promise g c =
     (c.begin_slot.ensures.unwritten (λ slot written. g.met.D.Desk.unbegun_is_empty c.args.desk.now slot written (c.requires.fresh slot)))
     (λ other. absurd (other refl)))
     (λ slot other. c.read_text.ensures.begun slot ∙ c.in_ok-begin_slot.ensures.ok.others slot other ∙ c.requires.fresh slot) own.0 (λ fault told. absurd (own.1 fault told)))
+
+-- a text that was read whole gives the profile that was read from it
+taken : (told : Option (List ℕ)) (bytes : List ℕ) (profile : ProfileValue) (outcome : Result ProfileValue ProfileFault)
+    → IfSome told (λ text. text ≡ bytes) → profile_of bytes ≡ Ok profile → option_map profile_of told ≡ Some outcome
+    → outcome ≡ Ok profile
+taken None bytes profile outcome same read is = absurd cc
+taken (Some text) bytes profile outcome same read is =
+    let first : outcome ≡ profile_of text = cc in first ∙ ap profile_of same ∙ read
+
+pub returns-in-Ok-clause-taken : goal.returns-in-Ok-clause-taken
+returns-in-Ok-clause-taken g c = λ outcome is.
+    let told = subst (λ o. IfSome o (λ text. (text ≡ c.in_ok-text.text.items) × ((g.D.Desk.state c.read_text.new.desk).left Profile ≡ Some []))) (c.in_ok-begin_slot.ensures.left refl) c.in_ok-text.ensures.text in
+    taken ((g.D.Desk.state c.args.desk.now).gives c.args.name.now) c.in_ok-text.text.items _ outcome
+    (IfSome_then ((g.D.Desk.state c.args.desk.now).gives c.args.name.now) told (λ text both. both.0))
+    (sym (ap profile_of c.deref.ensures.value) ∙ c.in-Ok.ensures.read) is
+
+pub returns-in-Ok-clause-whole : goal.returns-in-Ok-clause-whole
+returns-in-Ok-clause-whole g c =
+    let told = subst (λ o. IfSome o (λ text. (text ≡ c.in_ok-text.text.items) × ((g.D.Desk.state c.read_text.new.desk).left Profile ≡ Some []))) (c.in_ok-begin_slot.ensures.left refl) c.in_ok-text.ensures.text in
+    whole_profile c.args.name.now (g.D.Desk.state c.args.desk.now) (g.D.Desk.state c.read_text.new.desk)
+    (IfSome_then ((g.D.Desk.state c.args.desk.now).gives c.args.name.now) told (λ text both. both.1))
 
 pub returns-in-Ok-clause-runs : goal.returns-in-Ok-clause-runs
 returns-in-Ok-clause-runs g c =
