@@ -1,0 +1,106 @@
+-- Whatever is needed can be met by good lines.
+use Rattle.std.proofs.Common.{◌≡◌, ◌≤◌, ◌<◌, ◌∙◌, ℕ, ℤ, pos, List, [], ◌∷◌, ◌++◌, length, get_or, Option, Some, None, inl, inr, refl, sym, ap, subst, arith, true}
+use Rattle.std.specs.Prelude.{codes, replicate, IsTrue}
+use Rattle.std.specs.List.{AllByRecursion}
+use Rattle.std.proofs.Math.ListN.{get_or-eq_default}
+use Rattle.std.proofs.lemmas.Bool.{cases_lt}
+use Rattle.std.proofs.lemmas.List.{get_or-replicate}
+use Rattle.element_table.specs.Formula.{IsFormula, empty_formula}
+use Rattle.tree_certificate.specs.declared.document.Skip.TheVariants.{NoPrecursor}
+use Rattle.tree_certificate.specs.declared.document.Body.TheVariants.{Skipped}
+use Rattle.tree_certificate.specs.declared.document.Ending.TheVariants.{Clean}
+use Rattle.tree_certificate.specs.declared.entry.Outcome.TheVariants.{TooLarge}
+use Rattle.tree_certificate.specs.Value.{a_table}
+use Rattle.tree_certificate.specs.Line.{Line, header_line, clean_line, skip_line, list_line, formula_line, entries_line, too_large_line, row_line, table_line, table_row_line, done_line, Spells, WritesField, a_number, in_range, line_text}
+use Rattle.tree_certificate.specs.Document.{AreGoodLines, IsGoodLine}
+use Rattle.tree_certificate.specs.inside.Need.{Need, need_document, need_sections, need_body, need_list, need_formula, need_entries, need_entry, need_row, need_cert, need_table_row, need_done, follow}
+use Rattle.tree_certificate.proofs.FieldKinds.{Known}
+use Rattle.tree_certificate.proofs.Needs.{All, Value, all_lines, value_lines}
+use Rattle.tree_certificate.proofs.Running.{IsTaken, taken}
+use Rattle.tree_certificate.proofs.Shapes.{IsRead, line_complete}
+
+-- a line that a text spells is good where its numbers are in their ranges
+pub good_line : Known → (need : Need) (line : Line) (text : List ℕ) (more : List Need) → follow need line ≡ Some more → Spells line text → in_range line ≡ true → IsGoodLine line
+good_line known need line text more may spelled near =
+    let read = line_complete known need text line more may spelled in
+    let close : in_range read.line ≡ true = read.range ∙ near in
+    subst IsGoodLine (read.same close) (taken known need text read.line read.read close).good
+
+nought : (place : ℕ) → get_or empty_formula place 0 ≡ 0
+nought place = elim (cases_lt place 16) [ inl within ↦ get_or-replicate 16 place 0 0 within | inr past ↦ get_or-eq_default empty_formula 0 past ]
+
+empty_is : IsFormula empty_formula
+empty_is = record { places = refl; capped = λ place. let none = nought place in omega arith; elements = λ place past. nought place }
+
+good_clean : Known → IsGoodLine clean_line
+good_clean known = good_line known need_sections clean_line (codes "end clean") [] refl (codes " clean", refl, (codes " clean", [], refl, refl, refl)) refl
+
+one : (line : Line) → IsGoodLine line → AreGoodLines (line ∷ [])
+one line good = (good, tt)
+
+abbrev Met : Need → Type 0
+Met need = (value : Value need) × AreGoodLines (value_lines need value)
+
+met : Known → (need : Need) → Met need
+met known need_document = (
+  record { sections = []; ending = Clean },
+  (good_line known need_document header_line (codes "fragdoc 1") _ refl (codes " 1", refl, (codes " 1", [], refl, refl, refl)) refl, one clean_line (good_clean known)),
+)
+met known need_sections = (([], Clean), one clean_line (good_clean known))
+met known need_body = (Skipped NoPrecursor, one (skip_line NoPrecursor) (good_line known need_body (skip_line NoPrecursor) (codes "skip no-precursor") _ refl (codes " no-precursor", refl, (codes " no-precursor", [], refl, refl, refl)) refl))
+met known need_list = (
+  record { mz = 0; intensity = 0; formulas = [] },
+  one (list_line 0 0 0) (good_line known need_list (list_line 0 0 0) (codes "list 0 0 0") _ refl
+      (codes " 0 0 0", refl, (codes " 0", codes " 0 0", refl, (48 ∷ [], refl, (refl, refl)), (codes " 0", codes " 0", refl, (48 ∷ [], refl, (refl, refl)), (codes " 0", [], refl, (48 ∷ [], refl, (refl, refl)), refl)))) refl),
+)
+met known need_formula = (empty_formula, one (formula_line empty_formula) (good_line known need_formula (formula_line empty_formula) (codes "f -") _ refl (codes " -", refl, (codes " -", [], refl, (empty_is, refl), refl)) refl))
+met known need_entries = ([], one (entries_line 0) (good_line known need_entries (entries_line 0) (codes "entries 0") _ refl (codes " 0", refl, (codes " 0", [], refl, (48 ∷ [], refl, (refl, refl)), refl)) refl))
+met known need_entry = (
+  record { candidate = empty_formula; error = 0; outcome = TooLarge 0 },
+  one (too_large_line empty_formula 0 0) (good_line known need_entry (too_large_line empty_formula 0 0) (codes "entry - 0 too-large 0") _ refl
+      (codes " - 0 too-large 0", refl, (codes " -", codes " 0 too-large 0", refl, (empty_is, refl), (codes " 0", codes " too-large 0", refl, (48 ∷ [], refl, (refl, refl)), (codes " too-large", codes " 0", refl, refl, (codes " 0", [], refl, (48 ∷ [], refl, (refl, refl)), refl))))) refl),
+)
+met known need_row = (
+  record { edge = 0; parent = 0; peak = 0; formula = empty_formula; loss = empty_formula; weight = pos 0 },
+  one _ (good_line known need_row (row_line (record { edge = 0; parent = 0; peak = 0; formula = empty_formula; loss = empty_formula; weight = pos 0 })) (codes "r 0 0 0 - - 0") _ refl (
+    codes " 0 0 0 - - 0",
+    refl,
+    (
+      codes " 0",
+      codes " 0 0 - - 0",
+      refl,
+      (48 ∷ [], refl, (refl, refl)),
+      (
+        codes " 0",
+        codes " 0 - - 0",
+        refl,
+        (48 ∷ [], refl, (refl, refl)),
+        (
+          codes " 0",
+          codes " - - 0",
+          refl,
+          (48 ∷ [], refl, (refl, refl)),
+          (codes " -", codes " - 0", refl, (empty_is, refl), (codes " -", codes " 0", refl, (empty_is, refl), (codes " 0", [], refl, (48 ∷ [], refl, (refl, refl)), refl))),
+        ),
+      ),
+    ),
+  ) refl),
+)
+met known need_cert = (a_table [], one (table_line 0) (good_line known need_cert (table_line 0) (codes "table 0") _ refl (codes " 0", refl, (codes " 0", [], refl, (48 ∷ [], refl, (refl, refl)), refl)) refl))
+met known need_table_row = (
+  pos 0 ∷ [],
+  one (table_row_line (pos 0 ∷ [])) (good_line known need_table_row (table_row_line (pos 0 ∷ [])) (codes "t 0") _ refl
+      (codes " 0", refl, (codes " 0", [], refl, (omega arith, (48 ∷ [], [], refl, (refl, refl), refl)), refl)) refl),
+)
+met known need_done = (tt, one done_line (good_line known need_done done_line (codes "done") _ refl ([], refl, refl) refl))
+
+pub good_append : (first later : List Line) → AreGoodLines first → AreGoodLines later → AreGoodLines (first ++ later)
+good_append [] later are also = also
+good_append (line ∷ first) later are also = (are.0, good_append first later are.1 also)
+
+pub finish : Known → (needs : List Need) → (values : All needs) × AreGoodLines (all_lines needs values)
+finish known [] = (tt, tt)
+finish known (need ∷ needs) =
+    let first = met known need in
+    let later = finish known needs in
+    ((first.0, later.0), good_append (value_lines need first.0) (all_lines needs later.0) first.1 later.1)

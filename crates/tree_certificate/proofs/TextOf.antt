@@ -1,0 +1,21 @@
+-- The text of lines that are made of items.
+use Rattle.std.proofs.Common.{◌≡◌, ◌∙◌, ◌++◌, ℕ, List, [], ◌∷◌, map, refl, sym, ap}
+use Rattle.std.specs.Prelude.{codes}
+use Rattle.std.specs.List.{flat_map}
+use Rattle.std.proofs.lemmas.List.{append_assoc}
+use Rattle.tree_certificate.specs.Line.{Line, line_text}
+use Rattle.tree_certificate.specs.Document.{text_of}
+
+pub text_of_map : {X : Type 0} (f : X → Line) (items : List X) → text_of (map f items) ≡ flat_map (λ x. line_text (f x) ++ codes "\n") items
+text_of_map f [] = refl
+text_of_map f (x ∷ items) = ap (λ t. (line_text (f x) ++ codes "\n") ++ t) (text_of_map f items)
+
+text_of-append : (first later : List Line) → text_of (first ++ later) ≡ text_of first ++ text_of later
+text_of-append [] later = refl
+text_of-append (line ∷ first) later = ap (λ t. (line_text line ++ codes "\n") ++ t) (text_of-append first later) ∙ sym (append_assoc (line_text line ++ codes "\n") (text_of first) (text_of later))
+
+-- a line, and lines made of items
+pub head_and_items : {X : Type 0} (old head all : List ℕ) (line : Line) (f : X → Line) (items : List X) → head ≡ old ++ (line_text line ++ codes "\n") → all ≡ head ++ flat_map (λ x. line_text (f x) ++ codes "\n") items
+    → all ≡ old ++ text_of (line ∷ map f items)
+head_and_items old head all line f items head_is all_is =
+    all_is ∙ (λ i. head_is i ++ sym (text_of_map f items) i) ∙ append_assoc old (line_text line ++ codes "\n") (text_of (map f items))

@@ -1,0 +1,15 @@
+-- The numbers of a certificate.
+use Rattle.std.specs.Prelude.{ℕ, ℤ, Bool, nat_le, unsigned_abs, IsTrue, List}
+use Rattle.std.specs.List.{list_all}
+
+-- They are at most so far from 0.
+abbrev pub greatest_number : ℕ
+greatest_number = 1000000000000000
+
+-- a number is at most so far from 0
+abbrev pub is_near : ℕ → ℤ → Bool
+is_near most z = nat_le (unsigned_abs z) most
+
+-- the rows of a table, each of them a list of numbers that a certificate may hold
+abbrev pub AreNumbers : List (List ℤ) → Type 0
+AreNumbers rows = IsTrue (list_all (λ row. list_all (is_near greatest_number) row) rows)

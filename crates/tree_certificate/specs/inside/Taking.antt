@@ -1,0 +1,26 @@
+-- What a part of the reader tells: the bytes begin with what it answers, or stop.
+use Rattle.std.specs.Prelude.{List, [], ◌∷◌, ℕ, Result, Ok, Err}
+use Rattle.std.specs.Borrow.{Bor}
+use Rattle.mgf_reader.specs.Text.{ended_lines}
+use Rattle.tree_certificate.specs.declared.stop.Stop.{Stop}
+use Rattle.tree_certificate.specs.declared.stop.Stop.TheVariants.{Bad, Big, End, OutOfMemory}
+use Rattle.tree_certificate.specs.Line.{Line}
+use Rattle.tree_certificate.specs.inside.Need.{Need, follow}
+use Rattle.tree_certificate.specs.inside.Verdict.{Stops, Took, at_bad, at_big, at_end, next_needs}
+
+-- the needs stop as an answer says; want of memory says nothing of them
+abbrev pub StopsAs : List Need → List ℕ → Stop → Type 0
+StopsAs needs bytes (Bad left) = Stops needs bytes (at_bad (ended_lines left.now))
+StopsAs needs bytes (Big left) = Stops needs bytes (at_big (ended_lines left.now))
+StopsAs needs bytes End = Stops needs bytes at_end
+StopsAs needs bytes OutOfMemory = Unit {0}
+
+-- one line is taken
+abbrev pub Takes : {X : Type 0} → Need → (X → Line) → List ℕ → Result (X × Bor (List ℕ)) Stop → Type 0
+Takes need line bytes (Ok both) = Took (need ∷ []) (next_needs (follow need (line both.0))) (line both.0 ∷ []) bytes both.1.now
+Takes need line bytes (Err stop) = StopsAs (need ∷ []) bytes stop
+
+-- all lines for some needs are taken
+abbrev pub Reads : {X : Type 0} → List Need → (X → List Line) → List ℕ → Result (X × Bor (List ℕ)) Stop → Type 0
+Reads needs lines bytes (Ok both) = Took needs [] (lines both.0) bytes both.1.now
+Reads needs lines bytes (Err stop) = StopsAs needs bytes stop

@@ -1,0 +1,14 @@
+//! Why bytes are no document.
+
+/// Why bytes are refused; the kept numbers are lines, from 1.
+#[derive(Clone, Copy, Debug, PartialEq, Eq)]
+pub enum CertFault {
+    /// No document has this line here, whatever numbers are put.
+    BadLine(u32),
+    /// A number or a count of the line is past its range.
+    TooBig(u32),
+    /// Every whole line is good, and the bytes end before the end line does.
+    Truncated,
+    /// There was no memory.
+    OutOfMemory,
+}

@@ -1,0 +1,39 @@
+//! Laws of the definitions, which a check of this crate proves.
+ghost use Rattle.std.specs.Prelude.{◌≡◌, ◌≢◌, ◌≤◌, ◌+◌, ◌-◌, ◌∷◌, [], ℕ, List, Some, None, true, length};
+ghost use Rattle.tree_certificate.specs.Line.{Line, in_range, line_text};
+ghost use Rattle.tree_certificate.specs.Document.{IsGoodLine};
+ghost use Rattle.tree_certificate.specs.Reading.{IsBadLine, IsPastEnd, IsTooBig, IsTruncated};
+ghost use Rattle.tree_certificate.specs.inside.Need.{Need, line_at, need_document};
+ghost use Rattle.tree_certificate.specs.inside.Verdict.{at_bad, at_big, at_end, verdict};
+
+use element_table::{a_read_formula_is_one, a_spelling_is_one_word, reading_undoes_printing};
+use mgf_reader::a_kind_has_one_number_and_one_word;
+
+/// A line that is read where something is needed is good if its numbers are in their ranges, and the text is its spelling.
+pub(crate) fn a_line_has_one_spelling()
+    ensures { (need : Need) (text : List ℕ) (line : Line) → line_at need text ≡ Some line → in_range line ≡ true
+        → (text ≡ line_text line) × IsGoodLine line }
+{
+    reading_undoes_printing();
+    a_read_formula_is_one();
+    a_spelling_is_one_word();
+    a_kind_has_one_number_and_one_word();
+}
+
+/// Where the lines of a text stop, it is refused as documents say.
+pub(crate) fn lines_stop_as_documents_say()
+    ensures bad { (texts bad : List (List ℕ)) (line : ℕ) → verdict (need_document ∷ []) texts ≡ Some (at_bad bad)
+        → line ≡ (length texts + 1) - length bad → IsBadLine texts line }
+    ensures big { (texts bad : List (List ℕ)) (line : ℕ) → verdict (need_document ∷ []) texts ≡ Some (at_big bad)
+        → line ≡ (length texts + 1) - length bad → IsTooBig texts line }
+    ensures bad_within { (texts bad : List (List ℕ)) → verdict (need_document ∷ []) texts ≡ Some (at_bad bad) → length bad ≤ length texts }
+    ensures big_within { (texts bad : List (List ℕ)) → verdict (need_document ∷ []) texts ≡ Some (at_big bad) → length bad ≤ length texts }
+    ensures short { (texts : List (List ℕ)) → verdict (need_document ∷ []) texts ≡ Some at_end → IsTruncated texts }
+    ensures past_end { (texts : List (List ℕ)) (unfinished : List ℕ) (line : ℕ) → verdict (need_document ∷ []) texts ≡ None
+        → unfinished ≢ [] → line ≡ length texts + 1 → IsPastEnd texts unfinished line }
+{
+    reading_undoes_printing();
+    a_read_formula_is_one();
+    a_spelling_is_one_word();
+    a_kind_has_one_number_and_one_word();
+}

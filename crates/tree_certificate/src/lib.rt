@@ -1,0 +1,28 @@
+//! Documents of fragmentation trees and their certificates: what they hold, their one spelling, and reading it back.
+#![tactic(auto)]
+
+mod cut;
+mod document;
+mod entry;
+mod fault;
+mod fields;
+mod heads;
+mod laws;
+mod lines;
+mod numbers;
+mod ranges;
+mod reader;
+mod reading;
+mod stop;
+mod table;
+#[cfg(test)]
+mod tests;
+mod title;
+mod writer;
+
+pub use document::{Body, Document, Ending, FormulaLists, MgfEnd, Section, Sections, Skip, Solved};
+pub use entry::{Cert, Entries, Entry, Mark, Outcome, Tree, TreeRow, TreeRows};
+pub use fault::CertFault;
+pub use reading::read_document;
+pub use table::TableCert;
+pub use writer::{write_ending, write_header};
