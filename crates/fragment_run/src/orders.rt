@@ -94,7 +94,7 @@ mod tests {
     use std::alloc::{AllocError, Global};
     use std::test::Fail;
 
-    // Words with a space between, which order a list, and the names and the adduct of the list.
+    /// Words with a space between, which order a list, and the names and the adduct of the list.
     const ORDERS: [(&str, &str, Option<&str>, &str); 13] = [
         ("list --in a", "a", None, "[M+H]+"),
         ("list --in=a", "a", None, "[M+H]+"),
@@ -116,7 +116,7 @@ mod tests {
         ),
     ];
 
-    // Words with a space between, which are no order.
+    /// Words with a space between, which are no order.
     const NO_ORDERS: [&str; 28] = [
         "",
         "list",

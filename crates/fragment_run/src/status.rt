@@ -77,7 +77,7 @@ pub fn fault_text(alloc: Global, status: &Status) -> Result<Vec<u8>, AllocError>
     }
 }
 
-// The line that tells which line refuses a text.
+/// The line that tells which line refuses a text.
 fn refusal(alloc: Global, fault: &MgfFault) -> Result<Vec<u8>, AllocError>
     ensures { IfOk result (λ line. line.items ≡ fault_line (Status.MgfRefused fault.now)) }
 {
@@ -91,7 +91,7 @@ fn refusal(alloc: Global, fault: &MgfFault) -> Result<Vec<u8>, AllocError>
     Ok(line)
 }
 
-// The line that tells why a profile is refused.
+/// The line that tells why a profile is refused.
 fn profile_refusal(alloc: Global, fault: &ProfileFault) -> Result<Vec<u8>, AllocError>
     ensures { IfOk result (λ line. line.items ≡ fault_line (Status.ProfileRefused fault.now)) }
 {
@@ -102,7 +102,7 @@ fn profile_refusal(alloc: Global, fault: &ProfileFault) -> Result<Vec<u8>, Alloc
     Ok(line)
 }
 
-// Appends why a profile is refused.
+/// Appends why a profile is refused.
 fn push_refusal(alloc: Global, line: &mut Vec<u8>, fault: &ProfileFault) -> Result<(), AllocError>
     ensures { OnOk result (line.new.items ≡ line.old.items ++ refusal_text fault.now) }
 {
@@ -121,7 +121,7 @@ fn push_refusal(alloc: Global, line: &mut Vec<u8>, fault: &ProfileFault) -> Resu
     Ok(())
 }
 
-// Appends words and the name of a place in a profile.
+/// Appends words and the name of a place in a profile.
 fn push_named(line: &mut Vec<u8>, words: &[u8], name: &Name) -> Result<(), AllocError>
     ensures { OnOk result (line.new.items ≡ line.old.items ++ words.now ++ escaped name.now) }
 {
@@ -129,7 +129,7 @@ fn push_named(line: &mut Vec<u8>, words: &[u8], name: &Name) -> Result<(), Alloc
     push_escaped(line, name.items())
 }
 
-// A line of two parts.
+/// A line of two parts.
 fn line(alloc: Global, first: &str, second: &str) -> Result<Vec<u8>, AllocError>
     ensures { IfOk result (λ line. line.items ≡ first.now ++ second.now ++ codes "\n") }
 {
@@ -140,7 +140,7 @@ fn line(alloc: Global, first: &str, second: &str) -> Result<Vec<u8>, AllocError>
     Ok(line)
 }
 
-// What a line calls a slot.
+/// What a line calls a slot.
 fn slot_name(slot: Slot) -> &'static str
     ensures { result.now ≡ slot_name_of slot }
 {

@@ -13,11 +13,11 @@ const WATER: &[u8] = b"BEGIN IONS\nPEPMASS=19.0178410\nEND IONS\n";
 
 const WATER_LIST: &[u8] = b"spectrum 1 \nlists 1\nlist 190178410 0 1\nf H2O\ndone\nend clean\n";
 
-// A profile with carbon, hydrogen and oxygen alone.
+/// A profile with carbon, hydrogen and oxygen alone.
 const SUGARS: &[u8] = b"[elements]\nC = 100\nH = 200\nO = 40\n";
 
-// How a run ended, its code and the line that tells it, what it left in the report, and how many faults of each slot
-// were counted.
+/// How a run ended, its code and the line that tells it, what it left in the report, and how many faults of each slot
+/// were counted.
 #[derive(Drop)]
 struct Outcome {
     code: u8,
@@ -28,7 +28,7 @@ struct Outcome {
     report_faults: u64,
 }
 
-// Runs words, with a space between, over a desk with a file `a` of one text and a file `p` of another.
+/// Runs words, with a space between, over a desk with a file `a` of one text and a file `p` of another.
 fn run_words(
     alloc: Global,
     words: &str,
@@ -62,7 +62,7 @@ fn run_words(
     })
 }
 
-// Runs a list of this text under the default profile.
+/// Runs a list of this text under the default profile.
 fn run_list(
     alloc: Global,
     text: &[u8],
@@ -74,7 +74,7 @@ fn run_list(
     run_words(alloc, "list --in a", text, b"", failing, piece)
 }
 
-// How these words list a text under a profile, the same in pieces of every size.
+/// How these words list a text under a profile, the same in pieces of every size.
 fn lists(
     rt: &impl Abort,
     alloc: Global,
@@ -130,7 +130,7 @@ fn spectra_are_skipped_for_a_reason(rt: HostRuntime) -> Result<(), Fail> {
     Ok(())
 }
 
-// Glucose with a first line of its own, under the profile of carbon, hydrogen and oxygen.
+/// Glucose with a first line of its own, under the profile of carbon, hydrogen and oxygen.
 fn glucose_with(alloc: Global, line: &str, words: &str) -> Result<Outcome, AllocError> {
     let mut text = Vec::new(alloc);
     text.extend_from_slice(b"BEGIN IONS\n")?;
@@ -171,7 +171,7 @@ fn charges_decide_whether_a_spectrum_is_listed(rt: HostRuntime) -> Result<(), Fa
     Ok(())
 }
 
-// The lists at 181.0707 under the default profile, behind their number.
+/// The lists at 181.0707 under the default profile, behind their number.
 const AT_181: &str =
     "list 1810707000 0 9\nf C3H4N10\nf C5H6N7O\nf C7H8N4O2\nf CH9N8OP\nf C4H10N3O5\nf C3H11N5O2P\nf C6H12O6\nf C5H14N3S2\nf C7H16OS2\n";
 
@@ -304,7 +304,7 @@ fn refused_profiles_are_told(rt: HostRuntime) -> Result<(), Fail> {
     Ok(())
 }
 
-// A window of 0.4 Da at 1,500 Da holds far more than 20,000 formulas of these elements.
+/// A window of 0.4 Da at 1,500 Da holds far more than 20,000 formulas of these elements.
 #[test]
 fn a_list_too_long_is_told(rt: HostRuntime) -> Result<(), Fail> {
     let words = "list --in a --profile p";
@@ -389,7 +389,7 @@ fn each_failing_call_has_its_status(rt: HostRuntime) -> Result<(), Fail> {
     Ok(())
 }
 
-// A byte at a time, so that each read and each write fails once.
+/// A byte at a time, so that each read and each write fails once.
 #[test]
 fn what_is_written_is_a_first_part(rt: HostRuntime) -> Result<(), Fail> {
     let kind = CallKind::Write;

@@ -277,7 +277,7 @@ mod tests {
         },
     ];
 
-    // Words with a space between, and whether they are of the form of these options.
+    /// Words with a space between, and whether they are of the form of these options.
     const LINES: [(&str, bool); 12] = [
         ("--in a", true),
         ("--in=a --out b", true),

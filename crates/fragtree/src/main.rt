@@ -31,14 +31,14 @@ fn main(rt: HostRuntime) -> ExitCode {
     }
 }
 
-// The words after the program's name.
+/// The words after the program's name.
 fn words(rt: &(impl Env + AllocGlobal)) -> io::Result<Vec<String>> {
     let mut words = env::args(rt)?;
     let _name = words.next();
     Ok(words.collect(rt.alloc())?)
 }
 
-// Prints the line of a status on standard error. Where there is no memory for it, nothing is printed.
+/// Prints the line of a status on standard error. Where there is no memory for it, nothing is printed.
 fn tell(rt: &(impl Eprint + AllocGlobal), status: &Status) {
     if let Ok(line) = fault_text(rt.alloc(), status) {
         if let Ok(text) = str::from_utf8(&line) {

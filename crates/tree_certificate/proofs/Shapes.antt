@@ -9,7 +9,7 @@ use Rattle.std.proofs.lemmas.Option.{none-some, same_Some}
 use Rattle.std.proofs.lemmas.Slice.Eq.{bytes_eq-Decides}
 use Rattle.tree_certificate.specs.declared.document.Skip.{Skip}
 use Rattle.tree_certificate.specs.declared.document.Skip.TheVariants.{NoPrecursor, Charge, Range, TooMany}
-use Rattle.tree_certificate.specs.Line.{Field, a_word, a_number, a_kind, greatest_line, greatest_peak_number, greatest_vertices, Form, form, form_of, Line, header_line, clean_line, refused_line, spectrum_line, skip_line, lists_line, list_line, formula_line, entries_line, too_large_line, tree_line, row_line, table_line, table_row_line, done_line, Spells, WritesFields, field_text, in_range, is_field_in_range, line_text}
+use Rattle.tree_certificate.specs.Line.{Field, a_word, a_number, a_kind, greatest_line, greatest_peak_number, greatest_vertices, LineShape, form, form_of, Line, header_line, clean_line, refused_line, spectrum_line, skip_line, lists_line, list_line, formula_line, entries_line, too_large_line, tree_line, row_line, table_line, table_row_line, done_line, Spells, WritesFields, field_text, in_range, is_field_in_range, line_text}
 use Rattle.tree_certificate.specs.Number.{greatest_number}
 use Rattle.tree_certificate.specs.inside.Field.{Kind, word_kind, number_kind, signed_kind, formula_kind, mark_kind, Of, Tail, no_tail, Values, behind_word, field_of, fields_of, form_at, signed_in, token_at, value_at, value_in, values_at}
 use Rattle.tree_certificate.specs.inside.Need.{Need, need_document, need_sections, need_body, need_list, need_formula, need_entries, need_entry, need_row, need_cert, need_table_row, need_done, Shape, first_line, follow, line_at, line_with, or_else, shapes_of, header_shape, clean_shape, refused_shape, spectrum_shape, no_precursor_shape, charge_shape, range_shape, too_many_shape, lists_shape, list_shape, formula_shape, entries_shape, too_large_shape, tree_shape, row_shape, table_shape, table_row_shape, done_shape}
@@ -62,7 +62,7 @@ same_line need shape is values near =
 spells : (need : Need) (shape : Shape) → IsShape need shape → (values : Values shape.kinds shape.tail) (text rest : List ℕ) → text ≡ shape.word ++ rest → WritesFields (fields_of shape.kinds shape.tail values) rest
     → Spells (shape.make values) text
 spells need shape is values text rest split writes =
-    let P : Form → Type 0 = λ f. (rest : List ℕ) × (text ≡ f.word ++ rest) × WritesFields f.fields rest in
+    let P : LineShape → Type 0 = λ f. (rest : List ℕ) × (text ≡ f.word ++ rest) × WritesFields f.fields rest in
     subst P (sym (is.form values)) (rest, split, writes)
 
 shape_sound : Known → (need : Need) (shape : Shape) → IsShape need shape → (text : List ℕ) (line : Line) → line_with shape text ≡ Some line → ReadAs need text line
@@ -146,7 +146,7 @@ pub record IsRead (need : Need) (text : List ℕ) (whole : Line) : Type 0 where
 shape_complete : Known → (need : Need) (shape : Shape) → IsShape need shape → (values : Values shape.kinds shape.tail) (text : List ℕ) → Spells (shape.make values) text
     → line_with shape text ≡ Some (shape.make (capped_values shape.kinds shape.tail values))
 shape_complete known need shape is values text spelled =
-    let P : Form → Type 0 = λ f. (rest : List ℕ) × (text ≡ f.word ++ rest) × WritesFields f.fields rest in
+    let P : LineShape → Type 0 = λ f. (rest : List ℕ) × (text ≡ f.word ++ rest) × WritesFields f.fields rest in
     let writes : P (form shape.word (fields_of shape.kinds shape.tail values)) = subst P (is.form values) spelled in
     let word : behind_word shape.word text ≡ Some writes.0 = ap (behind_word shape.word) writes.1 ∙ behind_word-complete shape.word writes.0 in
     ap (λ o. option_map shape.make (option_and_then (values_at shape.kinds shape.tail) o)) word

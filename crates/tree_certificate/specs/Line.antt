@@ -48,11 +48,11 @@ pub data Field : Type 0 where
   some_numbers : ℕ → ℕ → List ℤ → Field
 
 -- a line: a first word, and the fields behind it
-pub record Form : Type 0 where
+pub record LineShape : Type 0 where
   pub word : List ℕ
   pub fields : List Field
 
-abbrev pub form : List ℕ → List Field → Form
+abbrev pub form : List ℕ → List Field → LineShape
 form word fields = record { word = word; fields = fields }
 
 -- the greatest line of a text, and the greatest number of vertices of a graph that is told
@@ -67,14 +67,14 @@ greatest_peak_number = 1000000000000000000
 abbrev pub greatest_vertices : ℕ
 greatest_vertices = 512
 
-abbrev pub skip_form : Skip → Form
+abbrev pub skip_form : Skip → LineShape
 skip_form NoPrecursor = form (codes "skip") (a_word (codes "no-precursor") ∷ [])
 skip_form Charge = form (codes "skip") (a_word (codes "charge") ∷ [])
 skip_form (Range mz) = form (codes "skip") (a_word (codes "range") ∷ a_number 0 greatest_peak_number mz ∷ [])
 skip_form (TooMany mz) = form (codes "skip") (a_word (codes "too-many") ∷ a_number 0 greatest_peak_number mz ∷ [])
 
 -- The table of line forms.
-abbrev pub form_of : Line → Form
+abbrev pub form_of : Line → LineShape
 form_of header_line = form (codes "fragdoc") (a_word (codes "1") ∷ [])
 form_of clean_line = form (codes "end") (a_word (codes "clean") ∷ [])
 form_of (refused_line line kind) = form (codes "end") (a_word (codes "refused") ∷ a_number 0 greatest_line line ∷ a_kind kind ∷ [])

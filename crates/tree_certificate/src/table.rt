@@ -56,21 +56,21 @@ impl TableCert {
     }
 }
 
-// Whether all numbers of the rows may stand in a certificate.
+/// Whether all numbers of the rows may stand in a certificate.
 fn are_numbers(rows: &[Vec<i64>]) -> bool
     ensures { result ≡ list_all (λ row. list_all (is_near greatest_number) row.items) rows.now }
 {
     rows.iter().all(|row| is_row(row.as_slice()))
 }
 
-// Whether all numbers of a row may stand in a certificate.
+/// Whether all numbers of a row may stand in a certificate.
 fn is_row(row: &[i64]) -> bool
     ensures { result ≡ list_all (is_near greatest_number) row.now }
 {
     row.iter().all(|number| is_near_zero(*number))
 }
 
-// Whether a number may stand in a certificate.
+/// Whether a number may stand in a certificate.
 fn is_near_zero(number: i64) -> bool
     ensures { result ≡ is_near greatest_number number }
 {
