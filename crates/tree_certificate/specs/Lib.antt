@@ -4,4 +4,7 @@ pub mod Title
 pub mod Line
 pub mod Document
 pub mod Reading
+pub mod ColourSet
+pub mod TableHolds
+pub mod CertHolds
 pub mod inside
