@@ -54,7 +54,7 @@ HasRow graph rows vertex = (vertex < length rows) × (length (row_at rows vertex
 -- a table has the rows of a graph with few colours
 pub record FitsGraph (graph : Graph) (rows : List (List ℤ)) : Type 0 where
   pub colours : colour_count graph ≤ greatest_colours
-  pub rows : length rows ≡ length graph.colours
+  pub count : length rows ≡ length graph.colours
   pub each : (vertex : ℕ) → vertex < length graph.colours → HasRow graph rows vertex
 
 -- what a table says of the whole graph: the root's score, and the root's number for all colours
