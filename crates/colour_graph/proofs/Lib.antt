@@ -8,3 +8,4 @@ pub mod Counting
 pub mod Choosing
 pub mod HeadsSoFar
 pub mod Scores
+mod Maximal

@@ -8,6 +8,7 @@ mod colourful;
 mod edge;
 mod graph;
 mod index;
+mod laws;
 #[cfg(test)]
 mod tests;
 
@@ -15,3 +16,4 @@ pub use allowed::Allowed;
 pub use builder::GraphBuilder;
 pub use edge::{Colour, Edge, EdgeId, VertexId};
 pub use graph::ColourGraph;
+pub use laws::a_best_list_is_maximal;
