@@ -16,3 +16,8 @@ mod FirstLines
 mod Sequence
 mod Whole
 mod TextOf
+pub mod Sums
+pub mod Owners
+pub mod Bounding
+pub mod Trees
+pub mod Tables

@@ -15,6 +15,7 @@ mod reader;
 mod reading;
 mod stop;
 mod table;
+mod table_laws;
 #[cfg(test)]
 mod tests;
 mod title;
@@ -25,4 +26,5 @@ pub use entry::{Cert, Entries, Entry, Mark, Outcome, Tree, TreeRow, TreeRows};
 pub use fault::CertFault;
 pub use reading::read_document;
 pub use table::TableCert;
+pub use table_laws::what_holds_bounds_every_tree;
 pub use writer::{write_ending, write_header};

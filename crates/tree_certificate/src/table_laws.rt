@@ -1,0 +1,13 @@
+//! Laws of certificates: what bounds the score of every tree. A check of this crate proves them.
+ghost use Rattle.std.specs.Prelude.{ℤ};
+ghost use Rattle.colour_graph.specs.Bounded.{IsBounded};
+ghost use Rattle.colour_graph.specs.EdgeSet.{all_edges};
+ghost use Rattle.colour_graph.specs.Graph.{Graph, IsGraph};
+ghost use Rattle.tree_certificate.specs.CertHolds.{CertHolds};
+ghost use Rattle.tree_certificate.specs.Value.{CertValue};
+
+/// No tree scores more than a number for which a certificate holds.
+pub fn what_holds_bounds_every_tree()
+    ensures { (graph : Graph) (cert : CertValue) (upper : ℤ) → IsGraph graph → CertHolds graph cert upper
+        → IsBounded graph (all_edges graph) upper }
+{}
