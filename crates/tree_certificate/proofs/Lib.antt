@@ -21,3 +21,7 @@ pub mod Owners
 pub mod Bounding
 pub mod Trees
 pub mod Tables
+pub mod Members
+pub mod Pricing
+pub mod Caps
+mod TableExamples

@@ -26,5 +26,5 @@ pub use entry::{Cert, Entries, Entry, Mark, Outcome, Tree, TreeRow, TreeRows};
 pub use fault::CertFault;
 pub use reading::read_document;
 pub use table::TableCert;
-pub use table_laws::what_holds_bounds_every_tree;
+pub use table_laws::{the_cap_bounds_every_tree, what_holds_bounds_every_tree};
 pub use writer::{write_ending, write_header};

@@ -1,6 +1,7 @@
 //! Laws of certificates: what bounds the score of every tree. A check of this crate proves them.
-ghost use Rattle.std.specs.Prelude.{ℤ};
+ghost use Rattle.std.specs.Prelude.{Bool, List, ℤ};
 ghost use Rattle.colour_graph.specs.Bounded.{IsBounded};
+ghost use Rattle.colour_graph.specs.Cap.{cap_of};
 ghost use Rattle.colour_graph.specs.EdgeSet.{all_edges};
 ghost use Rattle.colour_graph.specs.Graph.{Graph, IsGraph};
 ghost use Rattle.tree_certificate.specs.CertHolds.{CertHolds};
@@ -10,4 +11,10 @@ ghost use Rattle.tree_certificate.specs.Value.{CertValue};
 pub fn what_holds_bounds_every_tree()
     ensures { (graph : Graph) (cert : CertValue) (upper : ℤ) → IsGraph graph → CertHolds graph cert upper
         → IsBounded graph (all_edges graph) upper }
+{}
+
+/// No tree of edges of a set scores more than the cap of the set.
+pub fn the_cap_bounds_every_tree()
+    ensures { (graph : Graph) (allowed : List Bool) → IsGraph graph
+        → IsBounded graph allowed (cap_of graph allowed) }
 {}
