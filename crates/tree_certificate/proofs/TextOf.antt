@@ -2,7 +2,7 @@
 use Rattle.std.proofs.Common.{◌≡◌, ◌∙◌, ◌++◌, ℕ, List, [], ◌∷◌, map, refl, sym, ap}
 use Rattle.std.specs.Prelude.{codes}
 use Rattle.std.specs.List.{flat_map}
-use Rattle.std.proofs.lemmas.List.{append_assoc}
+use Rattle.std.proofs.lemmas.List.{append-nil, append_assoc}
 use Rattle.tree_certificate.specs.Line.{Line, line_text}
 use Rattle.tree_certificate.specs.Document.{text_of}
 
@@ -19,3 +19,18 @@ pub head_and_items : {X : Type 0} (old head all : List ℕ) (line : Line) (f : X
     → all ≡ old ++ text_of (line ∷ map f items)
 head_and_items old head all line f items head_is all_is =
     all_is ∙ (λ i. head_is i ++ sym (text_of_map f items) i) ∙ append_assoc old (line_text line ++ codes "\n") (text_of (map f items))
+
+text_of_flat : {X : Type 0} (f : X → List Line) (items : List X) → text_of (flat_map f items) ≡ flat_map (λ x. text_of (f x)) items
+text_of_flat f [] = refl
+text_of_flat f (x ∷ items) = text_of-append (f x) (flat_map f items) ∙ ap (λ t. text_of (f x) ++ t) (text_of_flat f items)
+
+-- a line, and the lines of items that have several
+pub head_and_groups : {X : Type 0} (old head all : List ℕ) (line : Line) (f : X → List Line) (items : List X)
+    → head ≡ old ++ (line_text line ++ codes "\n") → all ≡ head ++ flat_map (λ x. text_of (f x)) items
+    → all ≡ old ++ text_of (line ∷ flat_map f items)
+head_and_groups old head all line f items head_is all_is =
+    all_is ∙ (λ i. head_is i ++ sym (text_of_flat f items) i) ∙ append_assoc old (line_text line ++ codes "\n") (text_of (flat_map f items))
+
+-- one line alone
+pub one_line : (line : Line) → text_of (line ∷ []) ≡ line_text line ++ codes "\n"
+one_line line = append-nil (line_text line ++ codes "\n")

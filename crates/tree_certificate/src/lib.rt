@@ -25,4 +25,5 @@ pub use entry::{Cert, Entries, Entry, Mark, Outcome, Tree, TreeRow, TreeRows};
 pub use fault::CertFault;
 pub use reading::read_document;
 pub use table::TableCert;
-pub use writer::{write_ending, write_header};
+pub use title::push_escaped;
+pub use writer::{push_done, push_lists, push_skip, push_spectrum, write_ending, write_header};

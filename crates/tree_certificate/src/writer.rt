@@ -20,9 +20,9 @@ pub fn write_header() -> &'static [u8]
     b"fragdoc 1\n"
 }
 
-/// Appends the line of a spectrum.
-fn push_spectrum(text: &mut Vec<u8>, line: u32, title: &[u8]) -> Result<(), AllocError>
-    ensures { OnOk result (text.new.items ≡ text.old.items ++ (spec.line_text (spec.spectrum_line line title.now) ++ codes "\n")) }
+/// Appends the line of a spectrum: the line of its `BEGIN IONS` and its title.
+pub fn push_spectrum(text: &mut Vec<u8>, line: u32, title: &[u8]) -> Result<(), AllocError>
+    ensures { OnOk result (text.new.items ≡ text.old.items ++ text_of (spec.spectrum_line line title.now ∷ [])) }
 {
     text.extend_from_slice(b"spectrum")?;
     push_number(text, u64::from(line))?;
@@ -190,8 +190,18 @@ fn push_list(text: &mut Vec<u8>, list: &FormulaList) -> Result<(), AllocError>
     Ok(())
 }
 
-/// Appends the lines of lists.
-fn push_lists(text: &mut Vec<u8>, lists: &[FormulaList]) -> Result<(), AllocError>
+/// Appends the line that counts some lists, and their lines.
+pub fn push_lists(text: &mut Vec<u8>, lists: &[FormulaList]) -> Result<(), AllocError>
+    ensures { OnOk result (text.new.items ≡ text.old.items
+        ++ text_of (spec.lists_line (length lists.now) ∷ flat_map list_lines lists.now)) }
+{
+    push_counted(text, b"lists", lists.len() as u64)?;
+    push_each_list(text, lists)?;
+    Ok(())
+}
+
+/// Appends the lines of lists, one after another.
+fn push_each_list(text: &mut Vec<u8>, lists: &[FormulaList]) -> Result<(), AllocError>
     ensures { OnOk result (text.new.items ≡ text.old.items ++ flat_map (λ list. text_of (list_lines list)) lists.now) }
 {
     for list in lists {
@@ -221,8 +231,8 @@ fn push_table_rows(text: &mut Vec<u8>, rows: &[Vec<i64>]) -> Result<(), AllocErr
 }
 
 /// Appends the line that says why a spectrum was skipped.
-fn push_skip(text: &mut Vec<u8>, reason: &Skip) -> Result<(), AllocError>
-    ensures { OnOk result (text.new.items ≡ text.old.items ++ (spec.line_text (spec.skip_line reason.now) ++ codes "\n")) }
+pub fn push_skip(text: &mut Vec<u8>, reason: &Skip) -> Result<(), AllocError>
+    ensures { OnOk result (text.new.items ≡ text.old.items ++ text_of (spec.skip_line reason.now ∷ [])) }
 {
     match reason {
         Skip::NoPrecursor => text.extend_from_slice(b"skip no-precursor\n")?,
@@ -292,5 +302,13 @@ fn push_table(text: &mut Vec<u8>, rows: &[Vec<i64>]) -> Result<(), AllocError>
 {
     push_counted(text, b"table", rows.len() as u64)?;
     push_table_rows(text, rows)?;
+    Ok(())
+}
+
+/// Appends the line that ends a section.
+pub fn push_done(text: &mut Vec<u8>) -> Result<(), AllocError>
+    ensures { OnOk result (text.new.items ≡ text.old.items ++ text_of (spec.done_line ∷ [])) }
+{
+    text.extend_from_slice(b"done\n")?;
     Ok(())
 }
