@@ -1,10 +1,12 @@
 -- The text of lines that are made of items.
-use Rattle.std.proofs.Common.{◌≡◌, ◌∙◌, ◌++◌, ℕ, List, [], ◌∷◌, map, refl, sym, ap}
+use Rattle.std.proofs.Common.{◌≡◌, ◌∙◌, ◌++◌, ℕ, ℤ, List, [], ◌∷◌, length, map, refl, sym, ap}
 use Rattle.std.specs.Prelude.{codes}
 use Rattle.std.specs.List.{flat_map}
-use Rattle.std.proofs.lemmas.List.{append-nil, append_assoc}
-use Rattle.tree_certificate.specs.Line.{Line, line_text}
-use Rattle.tree_certificate.specs.Document.{text_of}
+use Rattle.std.proofs.lemmas.List.{append-nil, append_assoc, length-map}
+use Rattle.tree_certificate.specs.Line.{Line, table_line, table_row_line, line_text}
+use Rattle.tree_certificate.specs.Document.{cert_lines, text_of}
+use Rattle.tree_certificate.specs.Value.{a_table}
+use Rattle.tree_certificate.proofs.Sequence.{map_of_map}
 
 pub text_of_map : {X : Type 0} (f : X → Line) (items : List X) → text_of (map f items) ≡ flat_map (λ x. line_text (f x) ++ codes "\n") items
 text_of_map f [] = refl
@@ -34,3 +36,16 @@ head_and_groups old head all line f items head_is all_is =
 -- one line alone
 pub one_line : (line : Line) → text_of (line ∷ []) ≡ line_text line ++ codes "\n"
 one_line line = append-nil (line_text line ++ codes "\n")
+
+-- a line, lines made of items, and lines behind them
+pub head_items_and_last : {X : Type 0} (old head middle all : List ℕ) (line : Line) (f : X → Line) (items : List X) (last : List Line)
+    → head ≡ old ++ (line_text line ++ codes "\n") → middle ≡ head ++ flat_map (λ x. line_text (f x) ++ codes "\n") items → all ≡ middle ++ text_of last
+    → all ≡ old ++ text_of (line ∷ map f items ++ last)
+head_items_and_last old head middle all line f items last head_is middle_is all_is =
+    all_is ∙ ap (λ t. t ++ text_of last) (head_and_items old head middle line f items head_is middle_is)
+    ∙ append_assoc old (text_of (line ∷ map f items)) (text_of last) ∙ ap (λ t. old ++ t) (sym (text_of-append (line ∷ map f items) last))
+
+-- the lines of a table
+pub table_lines : {X : Type 0} (numbers : X → List ℤ) (rows : List X)
+    → table_line (length rows) ∷ map (λ row. table_row_line (numbers row)) rows ≡ cert_lines (a_table (map numbers rows))
+table_lines numbers rows = λ i. table_line (sym (length-map rows numbers) i) ∷ sym (map_of_map table_row_line numbers rows) i

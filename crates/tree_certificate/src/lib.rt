@@ -26,4 +26,6 @@ pub use fault::CertFault;
 pub use reading::read_document;
 pub use table::TableCert;
 pub use title::push_escaped;
-pub use writer::{push_done, push_lists, push_skip, push_spectrum, write_ending, write_header};
+pub use writer::{
+    push_done, push_lists, push_skip, push_spectrum, write_ending, write_header, write_section,
+};

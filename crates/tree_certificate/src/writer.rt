@@ -2,11 +2,13 @@
 ghost use Rattle.std.specs.Prelude.{◌≡◌, ◌++◌, [], ◌∷◌, IfOk, OnOk, codes, decimal, length, map};
 ghost use Rattle.std.specs.Fmt.{signed_decimal};
 ghost use Rattle.std.specs.List.{flat_map};
-ghost use Rattle.tree_certificate.specs.Document.{ending_line, list_lines, text_of};
+ghost use Rattle.tree_certificate.specs.Document.{body_lines, cert_lines, ending_line, entry_lines, list_lines, outcome_lines, section_lines, text_of};
+ghost use Rattle.tree_certificate.specs.declared.entry.Outcome.TheVariants as variants;
+ghost use Rattle.tree_certificate.specs.Value.{cert_of};
 ghost use Rattle.tree_certificate.specs.Line as spec;
 
-use crate::document::{Ending, Skip};
-use crate::entry::{Mark, TreeRow};
+use crate::document::{Body, Ending, Section, Skip, Solved};
+use crate::entry::{Cert, Entry, Mark, Outcome, Tree, TreeRow};
 use crate::title::push_escaped;
 use element_table::{Formula, FormulaList, print_formula};
 use itoa::Buffer;
@@ -311,4 +313,119 @@ pub fn push_done(text: &mut Vec<u8>) -> Result<(), AllocError>
 {
     text.extend_from_slice(b"done\n")?;
     Ok(())
+}
+
+/// Appends the lines of a certificate.
+fn push_cert(text: &mut Vec<u8>, cert: &Cert) -> Result<(), AllocError>
+    ensures { OnOk result (text.new.items ≡ text.old.items ++ text_of (cert_lines (cert_of cert.now))) }
+{
+    match cert {
+        Cert::Table(table) => push_table(text, table.rows())?,
+    }
+    Ok(())
+}
+
+/// Appends the line of a candidate with a tree.
+fn push_tree_line(
+    text: &mut Vec<u8>,
+    candidate: &Formula,
+    error: u64,
+    tree: &Tree,
+) -> Result<(), AllocError>
+    ensures { OnOk result (text.new.items ≡ text.old.items ++ (spec.line_text (spec.tree_line candidate.now error
+        tree.now.score tree.now.upper tree.now.mark (length tree.now.rows)) ++ codes "\n")) }
+{
+    push_candidate(text, candidate, error)?;
+    push_scores(
+        text,
+        tree.score,
+        tree.upper,
+        tree.mark,
+        tree.rows.items().len() as u64,
+    )?;
+    Ok(())
+}
+
+/// Appends the lines of a candidate with a tree.
+fn push_tree(
+    text: &mut Vec<u8>,
+    candidate: &Formula,
+    error: u64,
+    tree: &Tree,
+) -> Result<(), AllocError>
+    ensures { OnOk result (text.new.items ≡ text.old.items ++ text_of (outcome_lines candidate.now error (variants.Tree tree.now))) }
+{
+    push_tree_line(text, candidate, error, tree)?;
+    push_rows(text, tree.rows.items())?;
+    push_cert(text, &tree.cert)?;
+    Ok(())
+}
+
+/// Appends the lines of an entry.
+fn push_entry(text: &mut Vec<u8>, entry: &Entry) -> Result<(), AllocError>
+    ensures { OnOk result (text.new.items ≡ text.old.items ++ text_of (entry_lines entry.now)) }
+{
+    match &entry.outcome {
+        Outcome::TooLarge(vertices) => push_too_large(
+            text,
+            &entry.candidate,
+            entry.error,
+            *vertices,
+        )?,
+        Outcome::Tree(tree) => push_tree(text, &entry.candidate, entry.error, tree)?,
+    }
+    Ok(())
+}
+
+/// Appends the lines of entries, one after another.
+fn push_each_entry(text: &mut Vec<u8>, entries: &[Entry]) -> Result<(), AllocError>
+    ensures { OnOk result (text.new.items ≡ text.old.items ++ flat_map (λ entry. text_of (entry_lines entry)) entries.now) }
+{
+    for entry in entries {
+        push_entry(text, entry)?;
+    }
+    Ok(())
+}
+
+/// Appends the line that counts some entries, and their lines.
+fn push_entries(text: &mut Vec<u8>, entries: &[Entry]) -> Result<(), AllocError>
+    ensures { OnOk result (text.new.items ≡ text.old.items
+        ++ text_of (spec.entries_line (length entries.now) ∷ flat_map entry_lines entries.now)) }
+{
+    push_counted(text, b"entries", entries.len() as u64)?;
+    push_each_entry(text, entries)?;
+    Ok(())
+}
+
+/// Appends the lists and the entries of a spectrum.
+fn push_solved(text: &mut Vec<u8>, solved: &Solved) -> Result<(), AllocError>
+    ensures { OnOk result (text.new.items ≡ text.old.items
+        ++ text_of ((spec.lists_line (length solved.now.lists) ∷ flat_map list_lines solved.now.lists)
+        ++ spec.entries_line (length solved.now.entries) ∷ flat_map entry_lines solved.now.entries)) }
+{
+    push_lists(text, solved.lists.items())?;
+    push_entries(text, solved.entries.items())?;
+    Ok(())
+}
+
+/// Appends what stands between the line of a spectrum and the line `done`.
+fn push_body(text: &mut Vec<u8>, body: &Body) -> Result<(), AllocError>
+    ensures { OnOk result (text.new.items ≡ text.old.items ++ text_of (body_lines body.now)) }
+{
+    match body {
+        Body::Skipped(reason) => push_skip(text, reason)?,
+        Body::Solved(solved) => push_solved(text, solved)?,
+    }
+    Ok(())
+}
+
+/// The lines of a section.
+pub fn write_section(alloc: Global, section: &Section) -> Result<Vec<u8>, AllocError>
+    ensures { IfOk result (λ text. text.items ≡ text_of (section_lines section.now)) }
+{
+    let mut text = Vec::new(alloc);
+    push_spectrum(&mut text, section.line, section.title.items())?;
+    push_body(&mut text, &section.body)?;
+    push_done(&mut text)?;
+    Ok(text)
 }
