@@ -16,3 +16,6 @@ mod FirstLines
 mod Sequence
 mod Whole
 mod TextOf
+mod Plain
+mod Apart
+mod OneReading

@@ -1,8 +1,11 @@
 //! Laws of the definitions, which a check of this crate proves.
-ghost use Rattle.std.specs.Prelude.{◌≡◌, ◌≢◌, ◌≤◌, ◌+◌, ◌-◌, ◌∷◌, [], ℕ, List, Some, None, true, length};
+ghost use Rattle.std.specs.Prelude.{◌≡◌, ◌≢◌, ◌≤◌, ◌+◌, ◌-◌, ◌∷◌, ◌⊎◌, [], ℕ, List, Some, None, Result, Ok, Err, true, length};
 ghost use Rattle.tree_certificate.specs.Line.{Line, in_range, line_text};
-ghost use Rattle.tree_certificate.specs.Document.{IsGoodLine};
-ghost use Rattle.tree_certificate.specs.Reading.{IsBadLine, IsPastEnd, IsTooBig, IsTruncated};
+ghost use Rattle.tree_certificate.specs.Document.{IsGood, IsGoodLine, spelling_of};
+ghost use Rattle.tree_certificate.specs.Reading.{IsAnswer, IsBadLine, IsPastEnd, IsReading, IsTooBig, IsTruncated};
+ghost use Rattle.tree_certificate.specs.declared.document.Document.{Document};
+ghost use Rattle.tree_certificate.specs.declared.fault.CertFault.{CertFault};
+ghost use Rattle.tree_certificate.specs.declared.fault.CertFault.TheVariants.{OutOfMemory};
 ghost use Rattle.tree_certificate.specs.inside.Need.{Need, line_at, need_document};
 ghost use Rattle.tree_certificate.specs.inside.Verdict.{at_bad, at_big, at_end, verdict};
 
@@ -31,6 +34,20 @@ pub(crate) fn lines_stop_as_documents_say()
     ensures short { (texts : List (List ℕ)) → verdict (need_document ∷ []) texts ≡ Some at_end → IsTruncated texts }
     ensures past_end { (texts : List (List ℕ)) (unfinished : List ℕ) (line : ℕ) → verdict (need_document ∷ []) texts ≡ None
         → unfinished ≢ [] → line ≡ length texts + 1 → IsPastEnd texts unfinished line }
+{
+    reading_undoes_printing();
+    a_read_formula_is_one();
+    a_spelling_is_one_word();
+    a_kind_has_one_number_and_one_word();
+}
+
+/// Bytes read in one way: as one document or as one refusal. So the spelling of a document is read as it and as nothing else, want of
+/// memory aside.
+pub fn bytes_read_one_way()
+    ensures one { (bytes : List ℕ) (one other : Result Document CertFault) → IsReading bytes one → IsReading bytes other → one ≡ other }
+    ensures spelling { (document : Document) → IsGood document → IsReading (spelling_of document) (Ok document) }
+    ensures again { (document : Document) (answer : Result Document CertFault) → IsGood document → IsAnswer (spelling_of document) answer
+        → (answer ≡ Ok document) ⊎ (answer ≡ Err OutOfMemory) }
 {
     reading_undoes_printing();
     a_read_formula_is_one();
