@@ -2,19 +2,15 @@
 use Rattle.std.proofs.Common.{◌≡◌, ◌∙◌, ◌++◌, ℕ, ℤ, List, [], ◌∷◌, length, map, refl, sym, ap}
 use Rattle.std.specs.Prelude.{codes}
 use Rattle.std.specs.List.{flat_map}
-use Rattle.std.proofs.lemmas.List.{append-nil, append_assoc, length-map}
+use Rattle.std.proofs.lemmas.List.{append_assoc, length-map}
 use Rattle.tree_certificate.specs.Line.{Line, table_line, table_row_line, line_text}
 use Rattle.tree_certificate.specs.Document.{cert_lines, text_of}
 use Rattle.tree_certificate.specs.Value.{a_table}
-use Rattle.tree_certificate.proofs.Sequence.{map_of_map}
+use Rattle.tree_certificate.proofs.Sequence.{map_of_map, text_of-append}
 
 pub text_of_map : {X : Type 0} (f : X → Line) (items : List X) → text_of (map f items) ≡ flat_map (λ x. line_text (f x) ++ codes "\n") items
 text_of_map f [] = refl
 text_of_map f (x ∷ items) = ap (λ t. (line_text (f x) ++ codes "\n") ++ t) (text_of_map f items)
-
-text_of-append : (first later : List Line) → text_of (first ++ later) ≡ text_of first ++ text_of later
-text_of-append [] later = refl
-text_of-append (line ∷ first) later = ap (λ t. (line_text line ++ codes "\n") ++ t) (text_of-append first later) ∙ sym (append_assoc (line_text line ++ codes "\n") (text_of first) (text_of later))
 
 -- a line, and lines made of items
 pub head_and_items : {X : Type 0} (old head all : List ℕ) (line : Line) (f : X → Line) (items : List X) → head ≡ old ++ (line_text line ++ codes "\n") → all ≡ head ++ flat_map (λ x. line_text (f x) ++ codes "\n") items
@@ -22,7 +18,7 @@ pub head_and_items : {X : Type 0} (old head all : List ℕ) (line : Line) (f : X
 head_and_items old head all line f items head_is all_is =
     all_is ∙ (λ i. head_is i ++ sym (text_of_map f items) i) ∙ append_assoc old (line_text line ++ codes "\n") (text_of (map f items))
 
-text_of_flat : {X : Type 0} (f : X → List Line) (items : List X) → text_of (flat_map f items) ≡ flat_map (λ x. text_of (f x)) items
+pub text_of_flat : {X : Type 0} (f : X → List Line) (items : List X) → text_of (flat_map f items) ≡ flat_map (λ x. text_of (f x)) items
 text_of_flat f [] = refl
 text_of_flat f (x ∷ items) = text_of-append (f x) (flat_map f items) ∙ ap (λ t. text_of (f x) ++ t) (text_of_flat f items)
 
@@ -32,10 +28,6 @@ pub head_and_groups : {X : Type 0} (old head all : List ℕ) (line : Line) (f : 
     → all ≡ old ++ text_of (line ∷ flat_map f items)
 head_and_groups old head all line f items head_is all_is =
     all_is ∙ (λ i. head_is i ++ sym (text_of_flat f items) i) ∙ append_assoc old (line_text line ++ codes "\n") (text_of (flat_map f items))
-
--- one line alone
-pub one_line : (line : Line) → text_of (line ∷ []) ≡ line_text line ++ codes "\n"
-one_line line = append-nil (line_text line ++ codes "\n")
 
 -- a line, lines made of items, and lines behind them
 pub head_items_and_last : {X : Type 0} (old head middle all : List ℕ) (line : Line) (f : X → Line) (items : List X) (last : List Line)

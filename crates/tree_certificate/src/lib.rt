@@ -23,7 +23,7 @@ mod writer;
 pub use document::{Body, Document, Ending, FormulaLists, MgfEnd, Section, Sections, Skip, Solved};
 pub use entry::{Cert, Entries, Entry, Mark, Outcome, Tree, TreeRow, TreeRows};
 pub use fault::CertFault;
-pub use laws::bytes_read_one_way;
+pub use laws::{bytes_read_one_way, parts_make_the_spelling};
 pub use reading::read_document;
 pub use table::TableCert;
 pub use title::push_escaped;

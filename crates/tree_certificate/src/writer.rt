@@ -2,7 +2,8 @@
 ghost use Rattle.std.specs.Prelude.{◌≡◌, ◌++◌, [], ◌∷◌, IfOk, OnOk, codes, decimal, length, map};
 ghost use Rattle.std.specs.Fmt.{signed_decimal};
 ghost use Rattle.std.specs.List.{flat_map};
-ghost use Rattle.tree_certificate.specs.Document.{body_lines, cert_lines, ending_line, entry_lines, list_lines, outcome_lines, section_lines, text_of};
+ghost use Rattle.tree_certificate.specs.Document.{body_lines, cert_lines, ending_line, entry_lines, list_lines};
+ghost use Rattle.tree_certificate.specs.Document.{outcome_lines, section_lines, text_of};
 ghost use Rattle.tree_certificate.specs.declared.entry.Outcome.TheVariants as variants;
 ghost use Rattle.tree_certificate.specs.Value.{cert_of};
 ghost use Rattle.tree_certificate.specs.Line as spec;
@@ -36,7 +37,8 @@ pub fn push_spectrum(text: &mut Vec<u8>, line: u32, title: &[u8]) -> Result<(), 
 
 /// Appends the line of a list.
 fn push_list_head(text: &mut Vec<u8>, mz: u64, intensity: u64, count: u64) -> Result<(), AllocError>
-    ensures { OnOk result (text.new.items ≡ text.old.items ++ (spec.line_text (spec.list_line mz intensity count) ++ codes "\n")) }
+    ensures { OnOk result (text.new.items ≡ text.old.items
+        ++ (spec.line_text (spec.list_line mz intensity count) ++ codes "\n")) }
 {
     text.extend_from_slice(b"list")?;
     push_number(text, mz)?;
@@ -48,7 +50,8 @@ fn push_list_head(text: &mut Vec<u8>, mz: u64, intensity: u64, count: u64) -> Re
 
 /// Appends the line of a formula.
 fn push_formula_line(text: &mut Vec<u8>, formula: &Formula) -> Result<(), AllocError>
-    ensures { OnOk result (text.new.items ≡ text.old.items ++ (spec.line_text (spec.formula_line formula.now) ++ codes "\n")) }
+    ensures { OnOk result (text.new.items ≡ text.old.items
+        ++ (spec.line_text (spec.formula_line formula.now) ++ codes "\n")) }
 {
     text.push(b'f')?;
     push_formula(text, formula)?;
@@ -68,7 +71,9 @@ fn push_row(text: &mut Vec<u8>, row: &TreeRow) -> Result<(), AllocError>
 
 /// Appends the first word of a row and its numbers before the formulas.
 fn push_row_numbers(text: &mut Vec<u8>, row: &TreeRow) -> Result<(), AllocError>
-    ensures { OnOk result (text.new.items ≡ text.old.items ++ (codes "r" ++ ((codes " " ++ decimal row.now.edge) ++ ((codes " " ++ decimal row.now.parent) ++ (codes " " ++ decimal row.now.peak))))) }
+    ensures { OnOk result (text.new.items ≡ text.old.items
+        ++ (codes "r" ++ ((codes " " ++ decimal row.now.edge)
+        ++ ((codes " " ++ decimal row.now.parent) ++ (codes " " ++ decimal row.now.peak))))) }
 {
     text.push(b'r')?;
     push_number(text, u64::from(row.edge))?;
@@ -79,7 +84,9 @@ fn push_row_numbers(text: &mut Vec<u8>, row: &TreeRow) -> Result<(), AllocError>
 
 /// Appends the formulas of a row and its weight.
 fn push_row_formulas(text: &mut Vec<u8>, row: &TreeRow) -> Result<(), AllocError>
-    ensures { OnOk result (text.new.items ≡ text.old.items ++ (spec.field_text (spec.a_formula row.now.formula) ++ (spec.field_text (spec.a_formula row.now.loss) ++ (codes " " ++ signed_decimal row.now.weight)))) }
+    ensures { OnOk result (text.new.items ≡ text.old.items
+        ++ (spec.field_text (spec.a_formula row.now.formula)
+        ++ (spec.field_text (spec.a_formula row.now.loss) ++ (codes " " ++ signed_decimal row.now.weight)))) }
 {
     push_formula(text, &row.formula)?;
     push_formula(text, &row.loss)?;
@@ -89,7 +96,8 @@ fn push_row_formulas(text: &mut Vec<u8>, row: &TreeRow) -> Result<(), AllocError
 
 /// Appends the line of a row of a table.
 fn push_table_row(text: &mut Vec<u8>, row: &[i64]) -> Result<(), AllocError>
-    ensures { OnOk result (text.new.items ≡ text.old.items ++ (spec.line_text (spec.table_row_line row.now) ++ codes "\n")) }
+    ensures { OnOk result (text.new.items ≡ text.old.items
+        ++ (spec.line_text (spec.table_row_line row.now) ++ codes "\n")) }
 {
     text.push(b't')?;
     push_numbers(text, row)?;
@@ -126,7 +134,8 @@ fn push_formula(text: &mut Vec<u8>, formula: &Formula) -> Result<(), AllocError>
 
 /// Appends the numbers of a row of a table.
 fn push_numbers(text: &mut Vec<u8>, numbers: &[i64]) -> Result<(), AllocError>
-    ensures { OnOk result (text.new.items ≡ text.old.items ++ flat_map (λ number. codes " " ++ signed_decimal number) numbers.now) }
+    ensures { OnOk result (text.new.items ≡ text.old.items
+        ++ flat_map (λ number. codes " " ++ signed_decimal number) numbers.now) }
 {
     for number in numbers {
         push_signed(text, *number)?;
@@ -136,7 +145,8 @@ fn push_numbers(text: &mut Vec<u8>, numbers: &[i64]) -> Result<(), AllocError>
 
 /// Appends the lines of formulas.
 fn push_formulas(text: &mut Vec<u8>, formulas: &[Formula]) -> Result<(), AllocError>
-    ensures { OnOk result (text.new.items ≡ text.old.items ++ flat_map (λ counts. spec.line_text (spec.formula_line counts) ++ codes "\n") formulas.now) }
+    ensures { OnOk result (text.new.items ≡ text.old.items
+        ++ flat_map (λ counts. spec.line_text (spec.formula_line counts) ++ codes "\n") formulas.now) }
 {
     for formula in formulas {
         push_formula_line(text, formula)?;
@@ -146,7 +156,8 @@ fn push_formulas(text: &mut Vec<u8>, formulas: &[Formula]) -> Result<(), AllocEr
 
 /// Appends the lines of the rows of a tree.
 fn push_rows(text: &mut Vec<u8>, rows: &[TreeRow]) -> Result<(), AllocError>
-    ensures { OnOk result (text.new.items ≡ text.old.items ++ flat_map (λ row. spec.line_text (spec.row_line row) ++ codes "\n") rows.now) }
+    ensures { OnOk result (text.new.items ≡ text.old.items
+        ++ flat_map (λ row. spec.line_text (spec.row_line row) ++ codes "\n") rows.now) }
 {
     for row in rows {
         push_row(text, row)?;
@@ -214,7 +225,8 @@ fn push_each_list(text: &mut Vec<u8>, lists: &[FormulaList]) -> Result<(), Alloc
 
 /// Appends a line that is a word and a number.
 fn push_counted(text: &mut Vec<u8>, word: &[u8], number: u64) -> Result<(), AllocError>
-    ensures { OnOk result (text.new.items ≡ text.old.items ++ ((word.now ++ ((codes " " ++ decimal number) ++ [])) ++ codes "\n")) }
+    ensures { OnOk result (text.new.items ≡ text.old.items
+        ++ ((word.now ++ ((codes " " ++ decimal number) ++ [])) ++ codes "\n")) }
 {
     text.extend_from_slice(word)?;
     push_number(text, number)?;
@@ -224,7 +236,8 @@ fn push_counted(text: &mut Vec<u8>, word: &[u8], number: u64) -> Result<(), Allo
 
 /// Appends the lines of the rows of a table.
 fn push_table_rows(text: &mut Vec<u8>, rows: &[Vec<i64>]) -> Result<(), AllocError>
-    ensures { OnOk result (text.new.items ≡ text.old.items ++ flat_map (λ row. spec.line_text (spec.table_row_line row.items) ++ codes "\n") rows.now) }
+    ensures { OnOk result (text.new.items ≡ text.old.items
+        ++ flat_map (λ row. spec.line_text (spec.table_row_line row.items) ++ codes "\n") rows.now) }
 {
     for row in rows {
         push_table_row(text, row.as_slice())?;
@@ -247,7 +260,8 @@ pub fn push_skip(text: &mut Vec<u8>, reason: &Skip) -> Result<(), AllocError>
 
 /// Appends the beginning of an entry's line: the candidate and its error.
 fn push_candidate(text: &mut Vec<u8>, candidate: &Formula, error: u64) -> Result<(), AllocError>
-    ensures { OnOk result (text.new.items ≡ text.old.items ++ (codes "entry" ++ (spec.field_text (spec.a_formula candidate.now) ++ (codes " " ++ decimal error)))) }
+    ensures { OnOk result (text.new.items ≡ text.old.items
+        ++ (codes "entry" ++ (spec.field_text (spec.a_formula candidate.now) ++ (codes " " ++ decimal error)))) }
 {
     text.extend_from_slice(b"entry")?;
     push_formula(text, candidate)?;
@@ -262,7 +276,8 @@ fn push_too_large(
     error: u64,
     vertices: u32,
 ) -> Result<(), AllocError>
-    ensures { OnOk result (text.new.items ≡ text.old.items ++ (spec.line_text (spec.too_large_line candidate.now error vertices) ++ codes "\n")) }
+    ensures { OnOk result (text.new.items ≡ text.old.items
+        ++ (spec.line_text (spec.too_large_line candidate.now error vertices) ++ codes "\n")) }
 {
     push_candidate(text, candidate, error)?;
     push_counted(text, b" too-large", u64::from(vertices))?;
@@ -288,7 +303,9 @@ fn push_scores(
     mark: Mark,
     count: u64,
 ) -> Result<(), AllocError>
-    ensures { OnOk result (text.new.items ≡ text.old.items ++ ((codes " " ++ signed_decimal score) ++ ((codes " " ++ signed_decimal upper) ++ (spec.field_text (spec.a_mark mark) ++ ((codes " " ++ decimal count) ++ codes "\n"))))) }
+    ensures { OnOk result (text.new.items ≡ text.old.items
+        ++ ((codes " " ++ signed_decimal score) ++ ((codes " " ++ signed_decimal upper)
+        ++ (spec.field_text (spec.a_mark mark) ++ ((codes " " ++ decimal count) ++ codes "\n"))))) }
 {
     push_signed(text, score)?;
     push_signed(text, upper)?;
@@ -300,7 +317,8 @@ fn push_scores(
 
 /// Appends the lines of a table.
 fn push_table(text: &mut Vec<u8>, rows: &[Vec<i64>]) -> Result<(), AllocError>
-    ensures { OnOk result (text.new.items ≡ text.old.items ++ text_of (spec.table_line (length rows.now) ∷ map (λ row. spec.table_row_line row.items) rows.now)) }
+    ensures { OnOk result (text.new.items ≡ text.old.items
+        ++ text_of (spec.table_line (length rows.now) ∷ map (λ row. spec.table_row_line row.items) rows.now)) }
 {
     push_counted(text, b"table", rows.len() as u64)?;
     push_table_rows(text, rows)?;
@@ -353,7 +371,8 @@ fn push_tree(
     error: u64,
     tree: &Tree,
 ) -> Result<(), AllocError>
-    ensures { OnOk result (text.new.items ≡ text.old.items ++ text_of (outcome_lines candidate.now error (variants.Tree tree.now))) }
+    ensures { OnOk result (text.new.items ≡ text.old.items
+        ++ text_of (outcome_lines candidate.now error (variants.Tree tree.now))) }
 {
     push_tree_line(text, candidate, error, tree)?;
     push_rows(text, tree.rows.items())?;
@@ -379,7 +398,8 @@ fn push_entry(text: &mut Vec<u8>, entry: &Entry) -> Result<(), AllocError>
 
 /// Appends the lines of entries, one after another.
 fn push_each_entry(text: &mut Vec<u8>, entries: &[Entry]) -> Result<(), AllocError>
-    ensures { OnOk result (text.new.items ≡ text.old.items ++ flat_map (λ entry. text_of (entry_lines entry)) entries.now) }
+    ensures { OnOk result (text.new.items ≡ text.old.items
+        ++ flat_map (λ entry. text_of (entry_lines entry)) entries.now) }
 {
     for entry in entries {
         push_entry(text, entry)?;
