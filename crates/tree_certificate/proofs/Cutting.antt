@@ -17,13 +17,13 @@ pub record IsCut (bytes line rest : List ℕ) : Type 0 where
 ended-feed : (byte : ℕ) (bytes : List ℕ) → eqb byte 10 ≡ true → ended_lines (byte ∷ bytes) ≡ [] ∷ ended_lines bytes
 ended-feed byte bytes is = rw is refl
 
-ended-some : (byte : ℕ) (bytes line : List ℕ) (lines : List (List ℕ)) → eqb byte 10 ≡ false → ended_lines bytes ≡ line ∷ lines → ended_lines (byte ∷ bytes) ≡ (byte ∷ line) ∷ lines
+pub ended-some : (byte : ℕ) (bytes line : List ℕ) (lines : List (List ℕ)) → eqb byte 10 ≡ false → ended_lines bytes ≡ line ∷ lines → ended_lines (byte ∷ bytes) ≡ (byte ∷ line) ∷ lines
 ended-some byte bytes line lines is some = rw (is, some) refl
 
 ended-none : (byte : ℕ) (bytes : List ℕ) → eqb byte 10 ≡ false → ended_lines bytes ≡ [] → ended_lines (byte ∷ bytes) ≡ []
 ended-none byte bytes is none = rw (is, none) refl
 
-unfinished-more : (byte : ℕ) (bytes line : List ℕ) (lines : List (List ℕ)) → ended_lines (byte ∷ bytes) ≡ line ∷ lines → unfinished_line (byte ∷ bytes) ≡ unfinished_line bytes
+pub unfinished-more : (byte : ℕ) (bytes line : List ℕ) (lines : List (List ℕ)) → ended_lines (byte ∷ bytes) ≡ line ∷ lines → unfinished_line (byte ∷ bytes) ≡ unfinished_line bytes
 unfinished-more byte bytes line lines is =
     let some : ltb 0 (length (ended_lines (byte ∷ bytes))) ≡ true = ap (λ ls. ltb 0 (length ls)) is ∙ lt-ltb 0 (length (line ∷ lines)) (omega arith) in
     cond-true (ltb 0 (length (ended_lines (byte ∷ bytes)))) (unfinished_line bytes) (byte ∷ bytes) some

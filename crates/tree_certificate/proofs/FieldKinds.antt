@@ -68,7 +68,7 @@ digits_no_space (digit ∷ digits) all =
     let low : 48 ≤ digit = leb-true 48 digit (and_parts (leb 48 digit) (leb digit 57) parts.0).0 in
     and_from _ _ (not_from_false _ (ne_eqb digit 32 (λ same. omega arith))) (digits_no_space digits parts.1)
 
-number_digits : (token : List ℕ) → is_number token ≡ true → all_ascii_digits token ≡ true
+pub number_digits : (token : List ℕ) → is_number token ≡ true → all_ascii_digits token ≡ true
 number_digits [] is = (cc)
 number_digits (digit ∷ []) is = and_from _ _ is refl
 number_digits (digit ∷ next ∷ digits) is = (and_parts (not (eqb digit 48)) (all_ascii_digits (digit ∷ next ∷ digits)) is).1

@@ -25,3 +25,6 @@ pub mod Members
 pub mod Pricing
 pub mod Caps
 mod TableExamples
+mod Plain
+mod Apart
+mod OneReading

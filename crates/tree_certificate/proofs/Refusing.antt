@@ -88,7 +88,7 @@ further known Which front fronts left text leads good spelled begins =
       line = last.line;
       rest = begins.rest;
       begins = split;
-      leads = same_front known fronts front last.front (last.line ∷ begins.rest) (need_document ∷ []) left [] spelled good leads last.spelled (subst (λ l. Leads l (need_document ∷ []) []) split (document_leads begins.whole));
+      leads = (same_front known fronts front last.front (last.line ∷ begins.rest) (need_document ∷ []) left [] spelled good leads last.spelled (subst (λ l. Leads l (need_document ∷ []) []) split (document_leads begins.whole))).1;
       spells = last.spells;
     }
 

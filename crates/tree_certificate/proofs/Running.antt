@@ -93,8 +93,8 @@ run known (text ∷ texts) (need ∷ needs) stop is = step (line_at need text) r
 
 -- what the same texts spell is the same: the lines that are taken are those with which the lines of a document begin
 pub same_front : Known → (fronts : List (List ℕ)) (front others rest : List Line) (needs left end : List Need) → Spelled front fronts → AreGoodLines front → Leads front needs left
-    → Spelled others fronts → Leads (others ++ rest) needs end → Leads rest left end
-same_front known [] [] [] rest needs left end spelled good leads also whole = subst (λ n. Leads rest n end) leads whole
+    → Spelled others fronts → Leads (others ++ rest) needs end → (front ≡ others) × Leads rest left end
+same_front known [] [] [] rest needs left end spelled good leads also whole = (refl, subst (λ n. Leads rest n end) leads whole)
 same_front known [] (line ∷ front) others rest needs left end spelled good leads also whole = absurd spelled
 same_front known [] [] (other ∷ others) rest needs left end spelled good leads also whole = absurd also
 same_front known (text ∷ fronts) [] others rest needs left end spelled good leads also whole = absurd spelled
@@ -107,4 +107,5 @@ same_front known (text ∷ fronts) (line ∷ front) (other ∷ others) rest (nee
     let near : in_range mine.line ≡ true = mine.range ∙ good.0.in_range in
     let same : line ≡ other = sym (mine.same near) ∙ both ∙ its.same (ap in_range (sym both) ∙ near) in
     let more : leads.0 ≡ whole.0 = same_Some _ _ (sym leads.1 ∙ ap (follow need) same ∙ whole.1) in
-    same_front known fronts front others rest (leads.0 ++ needs) left end spelled.1 good.1 leads.2 also.1 (subst (λ m. Leads (others ++ rest) (m ++ needs) end) (sym more) whole.2)
+    let behind = same_front known fronts front others rest (leads.0 ++ needs) left end spelled.1 good.1 leads.2 also.1 (subst (λ m. Leads (others ++ rest) (m ++ needs) end) (sym more) whole.2) in
+    (λ i. same i ∷ behind.0 i, behind.1)

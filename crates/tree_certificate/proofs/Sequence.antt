@@ -19,7 +19,7 @@ flat_map-append : {X A : Type 0} (f : X → List A) (first later : List X) → f
 flat_map-append f [] later = refl
 flat_map-append f (x ∷ first) later = ap (λ t. f x ++ t) (flat_map-append f first later) ∙ sym (append_assoc (f x) (flat_map f first) (flat_map f later))
 
-text_of-append : (first later : List Line) → text_of (first ++ later) ≡ text_of first ++ text_of later
+pub text_of-append : (first later : List Line) → text_of (first ++ later) ≡ text_of first ++ text_of later
 text_of-append first later = flat_map-append _ first later
 
 -- what a part leaves is taken by the next one

@@ -24,7 +24,11 @@ mod writer;
 pub use document::{Body, Document, Ending, FormulaLists, MgfEnd, Section, Sections, Skip, Solved};
 pub use entry::{Cert, Entries, Entry, Mark, Outcome, Tree, TreeRow, TreeRows};
 pub use fault::CertFault;
+pub use laws::{bytes_read_one_way, parts_make_the_spelling};
 pub use reading::read_document;
 pub use table::TableCert;
 pub use table_laws::{the_cap_bounds_every_tree, what_holds_bounds_every_tree};
-pub use writer::{write_ending, write_header};
+pub use title::push_escaped;
+pub use writer::{
+    push_done, push_lists, push_skip, push_spectrum, write_ending, write_header, write_section,
+};
