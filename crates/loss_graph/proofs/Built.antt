@@ -1,4 +1,5 @@
--- What the graph of a candidate is: a formula for each vertex, a list for each colour, and edges between a whole and its proper parts.
+-- Of IsLossGraph and loss_graph_of: what the graph of a candidate is, a formula for each vertex, a list for each
+-- colour, and edges between a whole and its proper parts.
 use Rattle.std.proofs.Common.{◌≡◌, ◌+◌, ◌-◌, ◌<◌, ◌≤◌, ◌∙◌, ℕ, zero, suc, Bool, true, false, cond, List, [], ◌∷◌, length, map, get_or, ap, sym, refl, arith}
 use Rattle.std.proofs.lemmas.List.{get_or-map, length-map}
 use Rattle.std.proofs.lemmas.List.Elements.{All-append, All-cons, All-map, All-nil}

@@ -1,4 +1,4 @@
--- Vertices follow one another, colour by colour.
+-- Of vertices_of and peaks_of: vertices follow one another, colour by colour.
 use Rattle.std.proofs.Common.{◌≡◌, ◌+◌, ◌-◌, ◌<◌, ◌≤◌, ◌∙◌, inl, inr, ℕ, zero, suc, Bool, true, false, cond, List, [], ◌∷◌, ◌++◌, length, map, refl, arith}
 use Rattle.std.proofs.lemmas.Bool.{ltb-true}
 use Rattle.std.specs.List.{AllByRecursion, enumerate_from, filter, flat_map, range_with_len}

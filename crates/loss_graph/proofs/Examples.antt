@@ -1,4 +1,4 @@
--- Worked examples, computed: the graph of caffeine over three lists, and a ladder of carbon.
+-- Of loss_graph_of: worked examples, computed: the graph of caffeine over three lists, and a ladder of carbon.
 use Rattle.std.proofs.Common.{◌≡◌, ◌+◌, ◌-◌, ◌*◌, ℕ, ℤ, pos, List, [], ◌∷◌, length, map, refl}
 use Rattle.std.specs.List.{range_with_len}
 use Rattle.colour_graph.specs.declared.edge.Edge.{Edge}

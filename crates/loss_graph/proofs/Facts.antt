@@ -1,5 +1,5 @@
--- Where edges go: the two facts that give every edge a greater colour. Every atom is heavier than twice the greatest half-width, and
--- the intervals of lists are disjoint.
+-- Of IsPart and CanJoin: where edges go, by the two facts that give every edge a greater colour. Every atom is heavier
+-- than twice the greatest half-width, and the intervals of lists are disjoint.
 use Rattle.std.proofs.Common.{◌≡◌, ◌+◌, ◌-◌, ◌*◌, ◌<◌, ◌≤◌, ◌∙◌, ◌⊎◌, inl, inr, ℕ, zero, suc, ℤ, pos, ◌+ℤ◌, ◌-ℤ◌, ◌≤ℤ◌, Bool, true, false, List, [], ◌∷◌, length, drop, get_or, min, ap, refl, cond, arith}
 use Rattle.std.specs.Prelude.{◌↔◌, IsTrue}
 use Rattle.std.proofs.lemmas.Bool.{cases_lt}

@@ -1,4 +1,4 @@
--- How edges are joined head by head, and what scores of heads need.
+-- Of edges_to and head_score_of: how edges are joined head by head, and what scores of heads need.
 use Rattle.std.proofs.Common.{◌≡◌, ◌+◌, ◌-◌, ◌<◌, ◌≤◌, ◌^◌, ◌∙◌, ℕ, ℤ, List, [], length, map, drop, get_or, ap, sym, arith}
 use Rattle.std.proofs.lemmas.List.{flat_map_more, get_or-drop, get_or-map, length-drop, length-map}
 use Rattle.std.proofs.lemmas.List.Elements.{All-append, All-map, All-weaker}

@@ -6,3 +6,4 @@ pub mod Joining
 pub mod Heads
 pub mod Built
 mod Examples
+pub mod Descending

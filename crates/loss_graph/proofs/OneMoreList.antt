@@ -1,4 +1,4 @@
--- What one more list adds to what is gathered.
+-- Of AreGathered and Adds: what one more list adds to what is gathered.
 use Rattle.std.proofs.Common.{◌≡◌, ◌+◌, ◌<◌, ◌≤◌, ◌∙◌, ◌⊎◌, inl, inr, ℕ, suc, Bool, true, false, cond, List, [], ◌∷◌, ◌++◌, length, map, ap, sym, refl, ltb, arith}
 use Rattle.std.proofs.lemmas.Bool.{cases_lt, ltb-false}
 use Rattle.std.proofs.lemmas.List.{append-nil, flat_map_more, length-append, length-map, map-id, nil_from_length}

@@ -1,4 +1,4 @@
--- Scores of edges and counts of formulas fit their types.
+-- Of IsScore, union_of, Adds and greatest_intensity: scores of edges and counts of formulas fit their types.
 use Rattle.std.proofs.Common.{◌≡◌, ◌+◌, ◌<◌, ◌≤◌, ℕ, zero, suc, ℤ, pos, negsuc, ◌≤ℤ◌, Bool, true, false, cond, List, [], ◌∷◌, ◌++◌, length, get_or, max, refl, rules, arith, w32}
 use Rattle.std.specs.Prelude.{fold}
 use Rattle.std.proofs.lemmas.Int.{ints}

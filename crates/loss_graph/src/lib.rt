@@ -4,6 +4,8 @@
 mod building;
 mod edges;
 mod gathering;
+#[cfg(test)]
+mod ladder;
 mod loss_graph;
 mod outcome;
 mod scoring;

@@ -14,6 +14,15 @@ choice = record {
   peaks = 12;
 }
 
+-- protonated molecules, with half-widths of 10 parts in a million
+abbrev pub ladder_choice : Choice
+ladder_choice = record {
+  adduct = record { plus = true; shift = pos 10072764; extra = empty_formula; bound = neg_ℤ (pos 1) };
+  ppm = 10;
+  abs = 0;
+  peaks = 1000;
+}
+
 -- of so many H, C, N and O
 abbrev pub formula : ℕ → ℕ → ℕ → ℕ → List ℕ
 formula h c n o = atoms h c n o 0 0 0 0
