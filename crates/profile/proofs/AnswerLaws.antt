@@ -9,7 +9,7 @@ use Rattle.toml.specs.Parse.{parse_document}
 use Rattle.profile.specs.Places.{places_of}
 use Rattle.profile.specs.ProfileOf.{profile_in, profile_of, table_of, unless_refused}
 use Rattle.profile.specs.Refusal.{refusal_of}
-use Rattle.profile.specs.Searched.{Finds}
+use Rattle.profile.specs.inside.Searched.{Finds}
 use Rattle.profile.specs.Values.{profile_value_of}
 use Rattle.profile.specs.declared.fault.ProfileFault.{ProfileFault}
 use Rattle.profile.specs.declared.fault.ProfileFault.TheVariants.{NotToml, UnknownKey, BadValue, OverLimit, OutOfMemory}

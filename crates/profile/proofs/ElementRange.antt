@@ -8,7 +8,7 @@ use Rattle.std.proofs.lemmas.Slice.Eq.{bytes_eq-Decides}
 use Rattle.element_table.specs.Elements.{symbols}
 use Rattle.toml.specs.Data.{Members}
 use Rattle.profile.specs.Form.{Form, Known, number, form_at, is_symbol, number_of_element}
-use Rattle.profile.specs.Fine.{IsFine}
+use Rattle.profile.specs.inside.Fine.{IsFine}
 use Rattle.profile.specs.Table.{element_numbers}
 use Rattle.profile.proofs.ElementLaws.{get_or-element_numbers, get_or-element_numbers_past}
 use Rattle.profile.proofs.FineLaws.{number_in_range}

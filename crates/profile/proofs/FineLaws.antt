@@ -8,7 +8,7 @@ use Rattle.toml.specs.Data.{Data, string, integer, float, boolean, datetime, arr
 use Rattle.profile.specs.Form.{Form, Known, number, rule, rules, form_at, has_keys, has_items, item_form, taken_at, excess_of}
 use Rattle.profile.specs.Places.{place_with, places_under, places_of_keys, places_of_items, point_after}
 use Rattle.profile.specs.Refusal.{refusal_of, bad_at, over_at}
-use Rattle.profile.specs.Fine.{AreFine, AreFineLosses, IsFine, known_with}
+use Rattle.profile.specs.inside.Fine.{AreFine, AreFineLosses, IsFine, known_with}
 use Rattle.profile.specs.Table.{number_at}
 use Rattle.profile.specs.declared.fault.ProfileFault.TheVariants.{OverLimit}
 use Rattle.std.proofs.lemmas.Float.{T_from_true}

@@ -10,7 +10,7 @@ use Rattle.toml.proofs.Views.{items_view-drop}
 use Rattle.toml.specs.declared.value.Value.{Value}
 use Rattle.std.specs.Prelude.{String}
 use Rattle.std.specs.declared.alloc.Global.{Global}
-use Rattle.profile.specs.Counted.{items_excess, keys_excess}
+use Rattle.profile.specs.inside.Counted.{items_excess, keys_excess}
 use Rattle.profile.specs.Form.{bound_of, item_bounds, items_len, members_len, too_many}
 
 pub items_len-view : (values : List Value) → items_len (items_view values) ≡ length values

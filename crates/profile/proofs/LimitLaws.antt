@@ -11,7 +11,7 @@ use Rattle.profile.specs.Form.{limits, has_positive}
 use Rattle.profile.specs.Refusal.{bad_at}
 use Rattle.profile.specs.declared.fault.ProfileFault.{ProfileFault}
 use Rattle.profile.specs.declared.fault.ProfileFault.TheVariants.{BadValue}
-use Rattle.profile.specs.Fine.{IsFine}
+use Rattle.profile.specs.inside.Fine.{IsFine}
 use Rattle.profile.specs.Table.{element_numbers}
 use Rattle.profile.specs.Values.{as_count, limits_of}
 use Rattle.profile.proofs.ElementLaws.{length-element_numbers, get_or-element_numbers_past}

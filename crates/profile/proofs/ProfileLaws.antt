@@ -9,7 +9,7 @@ use Rattle.element_table.specs.Rule.{IsRule}
 use Rattle.toml.specs.Data.{Items, Members, as_array, as_table, get_member, no_items, no_members}
 use Rattle.profile.specs.Profile.{ProfileValue, IsProfile, default_limits, greatest_rules}
 use Rattle.profile.specs.Form.{limits, rules, scores, whole}
-use Rattle.profile.specs.Fine.{IsFine}
+use Rattle.profile.specs.inside.Fine.{IsFine}
 use Rattle.profile.specs.Places.{known_of, places_of}
 use Rattle.profile.specs.ProfileOf.{profile_in, profile_of, table_of, unless_refused}
 use Rattle.profile.specs.Refusal.{refusal_of}

@@ -6,7 +6,7 @@ use Rattle.std.specs.Prelude.{All, filter, option_and_then, unwrap_or}
 use Rattle.element_table.specs.Rule.{Rule, Parity, IsRule, IsNearZero}
 use Rattle.toml.specs.Data.{Data, array, as_table, get_member, Items, no_items, item, Members, no_members}
 use Rattle.profile.specs.Form.{rule, rules, coefficients, excess_of, items_len}
-use Rattle.profile.specs.Fine.{AreFine, IsFine, alone}
+use Rattle.profile.specs.inside.Fine.{AreFine, IsFine, alone}
 use Rattle.profile.specs.Profile.{greatest_rules}
 use Rattle.profile.specs.Table.{element_numbers, table_at}
 use Rattle.profile.specs.Values.{rule_of, rules_said, is_kept, is_neutral, put_table, tables_in}

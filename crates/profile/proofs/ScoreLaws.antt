@@ -14,7 +14,7 @@ use Rattle.element_table.specs.Rule.{IsNearZero}
 use Rattle.score_tables.specs.Default.{default_tables}
 use Rattle.score_tables.specs.Tables.{IsLossTable, IsScores, IsShareTable, LossTable, ShareTable, bounds_of, falls_to_nought, greatest_losses, greatest_pairs, greatest_score, greatest_share, greatest_size, least_size, rises_to_whole}
 use Rattle.toml.specs.Data.{Data, string, integer, float, boolean, datetime, array, table, as_array, as_integer, as_table, get_member, Items, no_items, item, Members, no_members, member}
-use Rattle.profile.specs.Fine.{AreFine, AreFineLosses, AreNearScores, AreShareItems, IsFine, IsShareItem, known_with}
+use Rattle.profile.specs.inside.Fine.{AreFine, AreFineLosses, AreNearScores, AreShareItems, IsFine, IsShareItem, known_with}
 use Rattle.profile.specs.Form.{Form, scores, intensities, errors, pair, named_losses, implausible_losses, loss, number, score, are_pairs, bound_of, has_kind, is_pair, item_bounds, item_form, items_len, members_len, too_many}
 use Rattle.profile.specs.Losses.{is_free, key_formula, read_formula, taken_with}
 use Rattle.profile.specs.Places.{place_with, places_of_items, places_of_losses, places_under, point_after}

@@ -3,7 +3,7 @@ use Rattle.std.proofs.Common.{◌≡◌, ◌≤◌, ◌≤ℤ◌, ℕ, ℤ, pos,
 use Rattle.std.proofs.lemmas.Int.{ints}
 use Rattle.toml.specs.Data.{Members}
 use Rattle.profile.specs.Form.{Known, whole, number, form_at}
-use Rattle.profile.specs.Fine.{IsFine, IsSmallCount}
+use Rattle.profile.specs.inside.Fine.{IsFine, IsSmallCount}
 use Rattle.profile.specs.Table.{number_at}
 use Rattle.profile.specs.Values.{as_count}
 use Rattle.profile.proofs.FineLaws.{number_in_range}

@@ -2,11 +2,8 @@ pub mod Profile
 pub mod Table
 pub mod Form
 pub mod Losses
-pub mod Counted
 pub mod Places
 pub mod Refusal
 pub mod Values
 pub mod ProfileOf
-pub mod Fine
-pub mod Seen
-pub mod Searched
+pub mod inside

@@ -1,5 +1,5 @@
--- The places of a profile text in the order of the walk: a table's keys in byte order and an array's items by place, each
--- followed by all that stands under it. The walk goes under a value only where its form has something to look for.
+-- The places of a profile text in the order of the walk: a table's keys in byte order and an array's items by place,
+-- each followed by all that stands under it. The walk goes under a value only where its form has something to look for.
 use Rattle.std.specs.Prelude.{ℕ, ◌+◌, List, [], ◌∷◌, ◌++◌, Option, Some, None, codes, decimal, if◌then◌else◌}
 use Rattle.element_table.specs.Elements.{symbols}
 use Rattle.toml.specs.Data.{Data, array, table, Items, no_items, item, Members, no_members, member}
@@ -17,8 +17,8 @@ pub record Place : Type 0 where
 abbrev pub point_after : List ℕ → List ℕ
 point_after name = name ++ codes "."
 
--- the places of a table whose keys are losses: each key is to give a loss, and none that is taken or that a key before it
--- gives
+-- the places of a table whose keys are losses: each key is to give a loss, and none that is taken or that a key before
+-- it gives
 abbrev pub places_of_losses : List (List ℕ) → List ℕ → Members → List Place
 places_of_losses taken before no_members = []
 places_of_losses taken before (member key value members) =
@@ -36,7 +36,8 @@ abbrev mutual
   places_under known form before (table members) =
       if has_keys form then places_of_keys known form before members
       else places_where_taken (taken_at known form) before members
-  places_under known form before (array items) = if has_items form then places_of_items known form before 0 items else []
+  places_under known form before (array items) =
+      if has_items form then places_of_items known form before 0 items else []
   places_under known form before value = []
 
   pub places_of_keys : Known → Form → List ℕ → Members → List Place

@@ -1,5 +1,5 @@
--- Why the table of a profile text is refused: the first unknown key, or else the first bad value, or else the first number
--- out of range.
+-- Why the table of a profile text is refused: the first unknown key, or else the first bad value, or else the first
+-- number out of range.
 use Rattle.std.specs.Prelude.{List, [], ◌∷◌, Option, Some, None, option_map, if◌then◌else◌}
 use Rattle.std.specs.Option.{option_or}
 use Rattle.profile.specs.Form.{is_unknown, has_kind, excess_of}

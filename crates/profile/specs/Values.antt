@@ -93,7 +93,8 @@ profile_value_of members = record {
   peaks = as_count (number_at members (codes "peaks") (pos default_profile_value.peaks));
   budget = as_count (number_at members (codes "budget") (pos default_profile_value.budget));
   limits =
-      option_map_or limits_of (option_and_then as_table (get_member (codes "elements") members)) default_profile_value.limits;
+      option_map_or limits_of (option_and_then as_table (get_member (codes "elements") members))
+      default_profile_value.limits;
   rules = rules_said false (items_at members (codes "rules"));
   neutral_rules = rules_said true (items_at members (codes "rules"));
   scores = in_formula_order (tables_said (table_at members (codes "scores")));

@@ -43,8 +43,8 @@ pub enum ProfileFault {
     UnknownKey(Name),
     /// No key is unknown, and this is the first place whose value has the wrong kind.
     BadValue(Name),
-    /// All values have their kind, and this is the first place with a number out of its range, and that number; or with more
-    /// rules than are allowed, and how many.
+    /// All values have their kind, and this is the first place with a number out of its range, and that number; or with
+    /// more rules than are allowed, and how many.
     OverLimit(Name, i64),
     /// There was no memory.
     OutOfMemory,

@@ -4,8 +4,8 @@ ghost use Rattle.std.specs.List.{list_any};
 ghost use Rattle.std.specs.Ordering.{int_eq};
 ghost use Rattle.profile.specs.Form as spec;
 ghost use Rattle.profile.specs.Form.{Known};
-ghost use Rattle.profile.specs.Counted.{items_excess, keys_excess};
-ghost use Rattle.profile.specs.Seen.{form_seen, rows_seen};
+ghost use Rattle.profile.specs.inside.Counted.{items_excess, keys_excess};
+ghost use Rattle.profile.specs.inside.Seen.{form_seen, rows_seen};
 ghost use Rattle.score_tables.specs.Tables.{falls_to_nought, rises_to_whole};
 ghost use Rattle.toml.specs.View.{view, array_view, table_view};
 

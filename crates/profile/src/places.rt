@@ -3,8 +3,8 @@ ghost use Rattle.std.specs.Prelude.{◌≡◌, ◌++◌, [], IfOk, OnOk, option_
 ghost use Rattle.profile.specs.Losses.{is_free, key_formula, taken_by, taken_with};
 ghost use Rattle.profile.specs.Places as spec;
 ghost use Rattle.profile.specs.Form.{taken_at};
-ghost use Rattle.profile.specs.Searched.{known_seen, losses_seen, places_seen};
-ghost use Rattle.profile.specs.Seen.{form_seen};
+ghost use Rattle.profile.specs.inside.Searched.{known_seen, losses_seen, places_seen};
+ghost use Rattle.profile.specs.inside.Seen.{form_seen};
 ghost use Rattle.profile.specs.Table as said;
 ghost use Rattle.toml.specs.View.{view, array_view, table_view};
 

@@ -51,10 +51,10 @@ impl Rules {
     }
 }
 
-/// What a run is done with: half the width of a window in parts per million of the m/z, 0 to 100, and its least value in
-/// units of 10^-7 Da, 0 to 2,000,000; the greatest number of selected peaks, 1 to 12; the budget of splits, 0 to 10,000; the
-/// greatest count of each element, one of them positive; the rules of the profile text that every listed formula has to pass,
-/// and those that candidates alone have to pass.
+/// What a run is done with: half the width of a window in parts per million of the m/z, 0 to 100, and its least value
+/// in units of 10^-7 Da, 0 to 2,000,000; the greatest number of selected peaks, 1 to 12; the budget of splits, 0 to
+/// 10,000; the greatest count of each element, one of them positive; the rules of the profile text that every listed
+/// formula has to pass, and those that candidates alone have to pass.
 #[derive(Debug, Drop)]
 pub struct Profile {
     pub ppm: u32,
@@ -102,8 +102,8 @@ pub(crate) fn default_limits() -> Limits
     Limits::new([200, 100, 20, 40, 3, 3, 0, 0, 0, 0, 0, 0, 0, 0, 0, 0])
 }
 
-/// The profile that counts where no text gives another: 10 parts per million and 10,000 units, 12 peaks, a budget of 200, the
-/// limits C 100, H 200, N 20, O 40, P 3 and S 3, and no rules.
+/// The profile that counts where no text gives another: 10 parts per million and 10,000 units, 12 peaks, a budget of
+/// 200, the limits C 100, H 200, N 20, O 40, P 3 and S 3, and no rules.
 pub fn default_profile(alloc: Global) -> Result<Profile, AllocError>
     ensures { IfOk result (λ profile. profile ≡ default_profile_value) }
 {

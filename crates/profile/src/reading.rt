@@ -12,8 +12,8 @@ use crate::values::profile_in;
 use std::alloc::Global;
 use toml::Table;
 
-/// The profile of a text, or the first reason to refuse it: bytes that are not TOML, then a key that is not known, then a
-/// value of the wrong kind, then a number out of its range.
+/// The profile of a text, or the first reason to refuse it: bytes that are not TOML, then a key that is not known, then
+/// a value of the wrong kind, then a number out of its range.
 pub fn read_profile(alloc: Global, bytes: &[u8]) -> Result<Profile, ProfileFault>
     ensures read { IfOk result (λ profile. profile_of bytes.now ≡ Ok profile) }
     ensures refused { IfErr result (λ fault. fault ≢ OutOfMemory → profile_of bytes.now ≡ Err fault) }

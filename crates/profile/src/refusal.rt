@@ -1,7 +1,7 @@
 //! The searches of a profile text for its first fault.
 ghost use Rattle.std.specs.Prelude.{◌≡◌, IfOk};
 ghost use Rattle.profile.specs.Refusal.{refusal_of, first_fault};
-ghost use Rattle.profile.specs.Searched.{Finds, fault_at, place_seen, places_seen};
+ghost use Rattle.profile.specs.inside.Searched.{Finds, fault_at, place_seen, places_seen};
 
 use crate::fault::{Name, ProfileFault};
 use crate::places::Place;

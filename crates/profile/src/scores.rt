@@ -2,7 +2,7 @@
 ghost use Rattle.std.specs.Prelude.{◌≡◌, ◌++◌, IfOk, OnOk, codes, unwrap_or, pos};
 ghost use Rattle.element_table.specs.Formula.{empty_formula};
 ghost use Rattle.element_table.specs.Rule.{IsNearZero};
-ghost use Rattle.profile.specs.Fine.{AreNearScores, AreShareItems, IsFine, IsShareItem};
+ghost use Rattle.profile.specs.inside.Fine.{AreNearScores, AreShareItems, IsFine, IsShareItem};
 ghost use Rattle.profile.specs.Form as form;
 ghost use Rattle.profile.specs.Losses.{key_formula};
 ghost use Rattle.profile.specs.Table as said;

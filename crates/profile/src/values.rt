@@ -1,7 +1,7 @@
 //! The profile of a table that is not refused.
 ghost use Rattle.std.specs.Prelude.{◌≡◌, ◌++◌, pos, IfOk, OnOk, codes};
 ghost use Rattle.toml.specs.View.{view, array_view, table_view};
-ghost use Rattle.profile.specs.Fine.{IsFine, AreFine, IsSmallCount, alone};
+ghost use Rattle.profile.specs.inside.Fine.{IsFine, AreFine, IsSmallCount, alone};
 ghost use Rattle.profile.specs.Form as form;
 ghost use Rattle.profile.specs.Table as said;
 ghost use Rattle.profile.specs.Values as spec;

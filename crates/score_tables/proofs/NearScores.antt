@@ -8,7 +8,7 @@ use Rattle.std.proofs.lemmas.Int.{ints, to_z-of_z}
 use Rattle.std.proofs.lemmas.List.Elements.{All-head, All-tail}
 use Rattle.element_table.specs.Formula.{formula_cmp}
 use Rattle.element_table.specs.Rule.{IsNearZero}
-use Rattle.score_tables.specs.Scores.{first_score}
+use Rattle.score_tables.specs.Scores.{first_score, greatest_single_score}
 use Rattle.score_tables.specs.Tables.{LossTable, ShareTable, greatest_score}
 
 pub near_first : (passes : ℕ → Bool) (pairs : ShareTable) → All (λ pair. IsNearZero greatest_score pair.1) pairs → IsNearZero greatest_score (first_score passes pairs)
@@ -55,7 +55,7 @@ sum_of_three a b d x y z near_a near_b near_d is_a is_b is_d =
     rw (kept a (wider a near_a), kept b (wider b near_b), kept d (wider d near_d), two, three, is_a, is_b, is_d)
 
 -- a base less a cost
-pub near_difference : (base cost score : ℤ) → base ≡ to_z w32 (of_z w32 score) → IsNearZero 6000 score → IsNearZero 2000 cost → IsNearZero 10000 (to_z w32 (of_z w32 (base -ℤ to_z w32 (of_z w32 cost))))
+pub near_difference : (base cost score : ℤ) → base ≡ to_z w32 (of_z w32 score) → IsNearZero 6000 score → IsNearZero 2000 cost → IsNearZero greatest_single_score (to_z w32 (of_z w32 (base -ℤ to_z w32 (of_z w32 cost))))
 near_difference base cost score is near_score near_cost =
     let fits : FitsSigned w32 (score -ℤ cost) = omega (arith, ints) in
     rw (is, kept score near_score, kept cost (wider cost near_cost), to_z-of_z w32 (score -ℤ cost) fits) (omega (arith, ints), omega (arith, ints))

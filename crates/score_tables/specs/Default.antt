@@ -44,7 +44,8 @@ abbrev pub default_named_texts : List (List ℕ)
 default_named_texts =
     codes "H2O" ∷ codes "CO" ∷ codes "CO2" ∷ codes "H3N" ∷ codes "CHN" ∷ codes "CH2O" ∷ codes "CH4O"
     ∷ codes "CH2O2" ∷ codes "C2H2" ∷ codes "C2H4" ∷ codes "C2H2O" ∷ codes "C2H4O2" ∷ codes "C3H6" ∷ codes "C4H8"
-    ∷ codes "HCl" ∷ codes "HF" ∷ codes "H2S" ∷ codes "O2S" ∷ codes "O3S" ∷ codes "HO3P" ∷ codes "H3O4P" ∷ codes "CH3" ∷ []
+    ∷ codes "HCl" ∷ codes "HF" ∷ codes "H2S" ∷ codes "O2S" ∷ codes "O3S" ∷ codes "HO3P" ∷ codes "H3O4P"
+    ∷ codes "CH3" ∷ []
 
 -- the losses that hardly occur
 abbrev pub default_implausible : LossTable

@@ -24,8 +24,8 @@ peak_score_of scores intensity greatest =
 abbrev pub error_score_of : ScoresValue → ℕ → ℕ → ℤ
 error_score_of scores error half = first_score (λ at_most. nat_le (share_of error half) at_most) scores.error
 
--- what is added for a loss that is not named: where it hardly occurs, where it is a radical, and where its rings and double
--- bonds are below 0
+-- what is added for a loss that is not named: where it hardly occurs, where it is a radical, and where its rings and
+-- double bonds are below 0
 abbrev pub unnamed_score_of : ScoresValue → List ℕ → ℤ
 unnamed_score_of scores loss =
     unwrap_or (find formula_cmp loss scores.implausible) (pos 0)
@@ -44,3 +44,7 @@ size_cost_of scores loss = min greatest_cost (mass_of loss / scores.size)
 abbrev pub loss_score_of : ScoresValue → List ℕ → ℤ
 loss_score_of scores loss =
     unwrap_or (find formula_cmp loss scores.named) (unnamed_score_of scores loss) -ℤ pos (size_cost_of scores loss)
+
+-- no score of one peak, of one error or of one loss is further from 0
+abbrev pub greatest_single_score : ℕ
+greatest_single_score = 10000

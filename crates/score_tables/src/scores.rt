@@ -4,8 +4,10 @@ ghost use Rattle.std.specs.FinMap.{find};
 ghost use Rattle.element_table.specs.Formula.{formula_cmp};
 ghost use Rattle.element_table.specs.Listed.{has_parity};
 ghost use Rattle.element_table.specs.Rule.{IsNearZero, odd};
+ghost use Rattle.element_table.specs.Window.{greatest_half_width};
 ghost use Rattle.score_tables.specs.Default.{default_scores};
-ghost use Rattle.score_tables.specs.Scores.{error_score_of, loss_score_of, peak_score_of, size_cost_of, unnamed_score_of, greatest_cost};
+ghost use Rattle.score_tables.specs.Scores.{error_score_of, loss_score_of, peak_score_of, size_cost_of, unnamed_score_of};
+ghost use Rattle.score_tables.specs.Scores.{greatest_cost, greatest_single_score};
 ghost use Rattle.score_tables.specs.Tables.{IsScores, greatest_score, in_formula_order};
 
 use crate::default::{
@@ -20,8 +22,8 @@ use std::marker::Model;
 /// The greatest cost of a loss for its mass.
 const GREATEST_COST: u64 = 2_000;
 
-/// The tables that the scores of a run are read from. Scores are whole numbers within 2,000 of 0. The losses of a table stand
-/// in formula order.
+/// The tables that the scores of a run are read from. Scores are whole numbers within 2,000 of 0. The losses of a table
+/// stand in formula order.
 #[derive(Debug, Drop)]
 pub struct Scores {
     intensity: Vec<(u16, i16)>,
@@ -75,8 +77,8 @@ impl Scores {
         ))
     }
 
-    /// The tables of these pairs of a bound and a score, and of these pairs of a loss and its score. Bounds are thousandths,
-    /// the size is in units of 10^-7 Da.
+    /// The tables of these pairs of a bound and a score, and of these pairs of a loss and its score. Bounds are
+    /// thousandths, the size is in units of 10^-7 Da.
     pub fn new(
         intensity: Vec<(u16, i16)>,
         error: Vec<(u16, i16)>,
@@ -124,7 +126,7 @@ impl Scores {
         requires within { intensity ≤ greatest }
         requires small { greatest ≤ 10 ^ 18 }
         ensures score { result ≡ peak_score_of self.now intensity greatest }
-        ensures near { IsNearZero 10000 result }
+        ensures near { IsNearZero greatest_single_score result }
     {
         at_least_score(&self.intensity, share(intensity, greatest))
     }
@@ -132,9 +134,9 @@ impl Scores {
     /// The score of the error of a mass, by its share in half the width of the window.
     pub fn error_score(&self, error: u64, half: u64) -> i32
         requires within { error ≤ half }
-        requires small { half ≤ 2000000 }
+        requires small { half ≤ greatest_half_width }
         ensures score { result ≡ error_score_of self.now error half }
-        ensures near { IsNearZero 10000 result }
+        ensures near { IsNearZero greatest_single_score result }
     {
         at_most_score(&self.error, share(error, half))
     }
@@ -143,7 +145,7 @@ impl Scores {
     /// costs.
     pub fn loss_score(&self, loss: &Formula) -> i32
         ensures score { result ≡ loss_score_of self.now loss.now }
-        ensures near { IsNearZero 10000 result }
+        ensures near { IsNearZero greatest_single_score result }
     {
         let base = match table_score(&self.named, loss) {
             Some(score) => score,

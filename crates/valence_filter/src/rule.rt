@@ -93,7 +93,7 @@ fn contribution(coefficient: i32, count: u16) -> i64
     requires near { IsNearZero 1000 coefficient }
     requires capped { count ≤ greatest_count }
     ensures product { result ≡ coefficient *ℤ pos count }
-    ensures near { IsNearZero (1000 * 1999) result }
+    ensures near { IsNearZero (1000 * greatest_count) result }
 {
     i64::from(coefficient) * i64::from(count)
 }

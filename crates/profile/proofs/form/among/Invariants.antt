@@ -1,6 +1,6 @@
 use Rattle.std.proofs.Common.{◌≡◌, drop}
 use Rattle.profile.specs.Form as spec
-use Rattle.profile.specs.Seen.{rows_seen}
+use Rattle.profile.specs.inside.Seen.{rows_seen}
 use Rattle.profile.proofs.form.among.Given as goal
 
 abbrev pub invariant-loop-name : goal.invariant-loop-name

@@ -1,8 +1,8 @@
 use Rattle.std.proofs.Common.{◌≡◌, ◌++◌, drop}
 use Rattle.toml.specs.View.{items_view, members_view}
 use Rattle.profile.specs.Places.{places_of_keys, places_of_items}
-use Rattle.profile.specs.Searched.{known_seen, places_seen}
-use Rattle.profile.specs.Seen.{form_seen}
+use Rattle.profile.specs.inside.Searched.{known_seen, places_seen}
+use Rattle.profile.specs.inside.Seen.{form_seen}
 use Rattle.profile.proofs.places.+walk.Given as goal
 
 abbrev pub invariant-add_items-items : goal.invariant-add_items-items

@@ -1,7 +1,7 @@
 use Rattle.std.proofs.Common.{◌≡◌, ◌++◌}
 use Rattle.toml.specs.View.{members_view}
 use Rattle.profile.specs.Places.{places_of_losses}
-use Rattle.profile.specs.Searched.{places_seen}
+use Rattle.profile.specs.inside.Searched.{places_seen}
 use Rattle.profile.proofs.places.add_losses.Given as goal
 
 abbrev pub invariant-loop-key : goal.invariant-loop-key

@@ -3,7 +3,7 @@ use Rattle.element_table.specs.Elements.{symbols}
 use Rattle.toml.specs.View.{table_view}
 use Rattle.profile.specs.Form.{whole}
 use Rattle.profile.specs.Places.{places_of_keys}
-use Rattle.profile.specs.Searched.{losses_seen, places_seen}
+use Rattle.profile.specs.inside.Searched.{losses_seen, places_seen}
 use Rattle.profile.proofs.places.lay_out.Goals as goal
 
 pub returns : goal.returns

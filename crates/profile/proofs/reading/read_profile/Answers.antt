@@ -3,7 +3,7 @@ use Rattle.std.proofs.lemmas.Result.{err_from_is_err_and}
 use Rattle.toml.specs.View.{table_view}
 use Rattle.profile.specs.Places.{places_of}
 use Rattle.profile.specs.Refusal.{refusal_of}
-use Rattle.profile.specs.Searched.{places_seen}
+use Rattle.profile.specs.inside.Searched.{places_seen}
 use Rattle.profile.proofs.AnswerLaws.{profile_of-not_toml, profile_of-refused, profile_of-read, told}
 use Rattle.profile.proofs.reading.read_profile.Goals as goal
 

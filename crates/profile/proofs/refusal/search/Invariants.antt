@@ -1,6 +1,6 @@
 use Rattle.std.proofs.Common.{◌≡◌, drop}
 use Rattle.profile.specs.Refusal.{first_fault}
-use Rattle.profile.specs.Searched.{fault_at, places_seen}
+use Rattle.profile.specs.inside.Searched.{fault_at, places_seen}
 use Rattle.profile.proofs.refusal.search.Given as goal
 
 abbrev pub invariant-loop-place : goal.invariant-loop-place

@@ -1,6 +1,6 @@
 use Rattle.std.proofs.Common.{◌≡◌, ◌++◌}
 use Rattle.toml.specs.View.{members_view}
-use Rattle.profile.specs.Fine.{AreNearScores}
+use Rattle.profile.specs.inside.Fine.{AreNearScores}
 use Rattle.profile.specs.Values.{losses_said}
 use Rattle.profile.proofs.scores.losses_of.Given as goal
 

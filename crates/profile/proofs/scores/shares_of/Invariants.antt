@@ -1,6 +1,6 @@
 use Rattle.std.proofs.Common.{◌≡◌, ◌++◌, drop}
 use Rattle.toml.specs.View.{items_view}
-use Rattle.profile.specs.Fine.{AreShareItems}
+use Rattle.profile.specs.inside.Fine.{AreShareItems}
 use Rattle.profile.specs.Values.{shares_said}
 use Rattle.profile.proofs.scores.shares_of.Given as goal
 

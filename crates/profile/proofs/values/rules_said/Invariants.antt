@@ -1,6 +1,6 @@
 use Rattle.std.proofs.Common.{◌≡◌, ◌++◌, drop}
 use Rattle.toml.specs.View.{items_view}
-use Rattle.profile.specs.Fine.{AreFine}
+use Rattle.profile.specs.inside.Fine.{AreFine}
 use Rattle.profile.specs.Form.{rules}
 use Rattle.profile.specs.Values.{rules_said}
 use Rattle.profile.proofs.values.rules_said.Given as goal

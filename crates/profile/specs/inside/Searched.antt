@@ -9,7 +9,7 @@ use Rattle.toml.specs.declared.value.Value.{Value}
 use Rattle.profile.specs.Form.{Known}
 use Rattle.profile.specs.Losses.{taken_by}
 use Rattle.profile.specs.declared.places.Walk.{Walk}
-use Rattle.profile.specs.Seen.{form_seen}
+use Rattle.profile.specs.inside.Seen.{form_seen}
 use Rattle.profile.specs.declared.places.Place.{Place}
 use Rattle.profile.specs.declared.refusal.Sought.{Sought}
 use Rattle.profile.specs.declared.refusal.Sought.TheVariants.{UnknownKeys, BadValues, OverLimits}
