@@ -1,0 +1,3 @@
+mod Fields
+mod Numbered
+mod Ranked

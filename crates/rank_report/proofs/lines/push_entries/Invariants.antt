@@ -1,0 +1,7 @@
+use Rattle.std.proofs.Common.{◌≡◌, ◌++◌, take}
+use Rattle.std.specs.List.{enumerate_from, flat_map}
+use Rattle.rank_report.specs.Report as spec
+use Rattle.rank_report.proofs.lines.push_entries.Given as goal
+
+abbrev pub invariant-loop-place : goal.invariant-loop-place
+invariant-loop-place l = l.text.items ≡ l.initial.text.items ++ flat_map spec.entry_text (enumerate_from 1 (take l.place l.entries))
