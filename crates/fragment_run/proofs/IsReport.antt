@@ -10,7 +10,7 @@ use Rattle.mgf_reader.specs.declared.fault.MgfFault.{MgfFault}
 use Rattle.mgf_reader.specs.Spectrum.{SpectrumValue}
 use Rattle.mgf_reader.specs.Grammar.{Reads}
 use Rattle.mgf_reader.specs.Stands.{ReaderValue, Stands, Answers, answer_of}
-use Rattle.fragment_run.specs.list.ReportForm.{Section, section_lines, ending_line}
+use Rattle.fragment_run.specs.list.ReportForm.{Section, section_text, ending_text}
 use Rattle.fragment_run.specs.RunSettings.{RunSettingsValue}
 use Rattle.fragment_run.specs.list.Sections.{AreSections, IsSection, IsReport, IsReportPart}
 
@@ -47,9 +47,9 @@ AreSections-push settings [] (other ∷ others) spectrum section are is = absurd
 AreSections-push settings (first ∷ spectra) [] spectrum section are is = absurd are
 AreSections-push settings (first ∷ spectra) (other ∷ others) spectrum section are is = (are.0, AreSections-push settings spectra others spectrum section are.1 is)
 
-flat_map-push : (sections : List Section) (section : Section) → flat_map section_lines (sections ++ section ∷ []) ≡ flat_map section_lines sections ++ section_lines section
-flat_map-push [] section = append-nil (section_lines section)
-flat_map-push (first ∷ sections) section = ap (λ (bytes : List ℕ). section_lines first ++ bytes) (flat_map-push sections section) ∙ sym (append_assoc (section_lines first) (flat_map section_lines sections) (section_lines section))
+flat_map-push : (sections : List Section) (section : Section) → flat_map section_text (sections ++ section ∷ []) ≡ flat_map section_text sections ++ section_text section
+flat_map-push [] section = append-nil (section_text section)
+flat_map-push (first ∷ sections) section = ap (λ (bytes : List ℕ). section_text first ++ bytes) (flat_map-push sections section) ∙ sym (append_assoc (section_text first) (flat_map section_text sections) (section_text section))
 
 -- The sections of the spectra that were handed out stand in a report; the others wait.
 pub record Pushed (settings : RunSettingsValue) (all waiting : List SpectrumValue) (before now : List ℕ) : Type 0 where
@@ -57,7 +57,7 @@ pub record Pushed (settings : RunSettingsValue) (all waiting : List SpectrumValu
   pub sections : List Section
   pub whole : all ≡ out ++ waiting
   pub are_sections : AreSections settings out sections
-  pub bytes : now ≡ before ++ flat_map section_lines sections
+  pub bytes : now ≡ before ++ flat_map section_text sections
 
 pub pushed_none : (settings : RunSettingsValue) (all : List SpectrumValue) (before : List ℕ) → Pushed settings all all before before
 pushed_none settings all before = record { out = []; sections = []; whole = refl; are_sections = tt; bytes = sym (append-nil before) }
@@ -66,17 +66,17 @@ pub pushed_more : (settings : RunSettingsValue) (all waiting rest : List Spectru
     → Pushed settings all waiting before now
     → waiting ≡ spectrum ∷ rest
     → IsSection settings spectrum section
-    → next ≡ now ++ section_lines section
+    → next ≡ now ++ section_text section
     → Pushed settings all rest before next
 pushed_more settings all waiting rest before now next spectrum section pushed taken is more = record {
   out = pushed.out ++ spectrum ∷ [];
   sections = pushed.sections ++ section ∷ [];
   whole = pushed.whole ∙ ap (λ (w : List SpectrumValue). pushed.out ++ w) taken ∙ sym (append_assoc pushed.out (spectrum ∷ []) rest);
   are_sections = AreSections-push settings pushed.out pushed.sections spectrum section pushed.are_sections is;
-  bytes = more ∙ ap (λ (b : List ℕ). b ++ section_lines section) pushed.bytes ∙ append_assoc before (flat_map section_lines pushed.sections) (section_lines section) ∙ ap (λ (b : List ℕ). before ++ b) (sym (flat_map-push pushed.sections section));
+  bytes = more ∙ ap (λ (b : List ℕ). b ++ section_text section) pushed.bytes ∙ append_assoc before (flat_map section_text pushed.sections) (section_text section) ∙ ap (λ (b : List ℕ). before ++ b) (sym (flat_map-push pushed.sections section));
 }
 
-pub pushed_all : (settings : RunSettingsValue) (all waiting : List SpectrumValue) (before now : List ℕ) → Pushed settings all waiting before now → waiting ≡ [] → (sections : List Section) × AreSections settings all sections × (now ≡ before ++ flat_map section_lines sections)
+pub pushed_all : (settings : RunSettingsValue) (all waiting : List SpectrumValue) (before now : List ℕ) → Pushed settings all waiting before now → waiting ≡ [] → (sections : List Section) × AreSections settings all sections × (now ≡ before ++ flat_map section_text sections)
 pushed_all settings all waiting before now pushed none =
     (pushed.sections, subst (λ (s : List SpectrumValue). AreSections settings s pushed.sections) (sym (pushed.whole ∙ ap (λ (w : List SpectrumValue). pushed.out ++ w) none ∙ append-nil pushed.out)) pushed.are_sections, pushed.bytes)
 
@@ -99,5 +99,5 @@ part_of settings text fault bytes n report =
       sections = report.sections;
       are_sections = subst (λ (n : ℕ). AreSections settings (take n report.spectra) report.sections) (sym same) (subst (λ (s : List SpectrumValue). AreSections settings s report.sections) (sym (take-length report.spectra)) report.are_sections);
       rest = drop n bytes;
-      form = ap (λ (whole : Bool). flat_map section_lines report.sections ++ (if whole then [] else ending_line fault)) none ∙ sym report.form ∙ sym (take-append-drop n bytes);
+      form = ap (λ (whole : Bool). flat_map section_text report.sections ++ (if whole then [] else ending_text fault)) none ∙ sym report.form ∙ sym (take-append-drop n bytes);
     }

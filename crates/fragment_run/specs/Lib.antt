@@ -8,10 +8,8 @@ pub mod Causes
 pub mod Steps
 pub mod ProfilePromise
 pub mod Leaves
-pub mod Escape
-pub mod Skip
-pub mod ListLines
 pub mod RunSettings
 pub mod Outline
+pub mod Ending
 pub mod list
 pub mod inside

@@ -4,14 +4,15 @@ use Rattle.std.specs.List.{find}
 use Rattle.element_table.specs.FormulaList.{FormulaListValue}
 use Rattle.mgf_reader.specs.Spectrum.{PeakValue}
 use Rattle.adducts.specs.declared.outcome.Fit.{Fit}
-use Rattle.adducts.specs.declared.outcome.Fit.TheVariants.{NoPrecursor, Charge, Range, Usable}
+use Rattle.adducts.specs.declared.outcome.Fit.TheVariants as Found
 use Rattle.adducts.specs.Selected.{Selected}
+use Rattle.tree_certificate.specs.declared.document.Skip.{Skip}
+use Rattle.tree_certificate.specs.declared.document.Skip.TheVariants.{NoPrecursor, Charge, Range, TooMany}
 use Rattle.fragment_run.specs.RunSettings.{RunSettingsValue, has_too_many, list_at}
-use Rattle.fragment_run.specs.Skip.{SkipValue, no_precursor, charge, range, too_many}
 
 -- what stands of a spectrum: why it was skipped, or its lists, the precursor's first
 pub data OutlineValue : Type 0 where
-  skipped : SkipValue → OutlineValue
+  skipped : Skip → OutlineValue
   listed : List FormulaListValue → OutlineValue
 
 -- the m/z of each list: the precursor's, then those of the selected peaks
@@ -25,7 +26,7 @@ lists_of settings precursor selected =
 
 -- what stands of the lists, where the first that has too many formulas is known
 abbrev pub outline_with : Option ℕ → List FormulaListValue → OutlineValue
-outline_with (Some mz) lists = skipped (too_many mz)
+outline_with (Some mz) lists = skipped (TooMany mz)
 outline_with None lists = listed lists
 
 -- what stands of a spectrum with this precursor and these selected peaks: it is skipped for its first list with too
@@ -37,9 +38,9 @@ explained settings precursor selected =
 -- what stands of a spectrum: it is skipped for the first reason why it cannot be used, if there is one; else its lists
 -- explain it
 abbrev pub IsOutline : RunSettingsValue → List PeakValue → Fit → OutlineValue → Type 0
-IsOutline settings peaks NoPrecursor outline = outline ≡ skipped no_precursor
-IsOutline settings peaks Charge outline = outline ≡ skipped charge
-IsOutline settings peaks (Range mz) outline = outline ≡ skipped (range mz)
-IsOutline settings peaks (Usable mz) outline =
+IsOutline settings peaks Found.NoPrecursor outline = outline ≡ skipped NoPrecursor
+IsOutline settings peaks Found.Charge outline = outline ≡ skipped Charge
+IsOutline settings peaks (Found.Range mz) outline = outline ≡ skipped (Range mz)
+IsOutline settings peaks (Found.Usable mz) outline =
     (selected : List PeakValue) × Selected settings.choice mz peaks selected
     × (outline ≡ explained settings mz selected)

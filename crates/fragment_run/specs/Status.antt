@@ -6,7 +6,7 @@ use Rattle.frag_io.specs.declared.desk.Slot.TheVariants.{Spectra, Profile, CertI
 use Rattle.std.specs.Fmt.{signed_decimal}
 use Rattle.profile.specs.declared.fault.ProfileFault.{ProfileFault}
 use Rattle.profile.specs.declared.fault.ProfileFault.TheVariants.{NotToml, UnknownKey, BadValue, OverLimit, OutOfMemory}
-use Rattle.fragment_run.specs.Escape.{escaped}
+use Rattle.tree_certificate.specs.Title.{escaped}
 use Rattle.fragment_run.specs.declared.status.Status.{Status}
 use Rattle.fragment_run.specs.declared.status.Status.TheVariants.{Done, Words, Memory, ReadFault, WriteFault, OpenFault, TooLong, MgfRefused, ProfileRefused}
 

@@ -10,15 +10,12 @@ ghost use Rattle.fragment_run.specs.Steps.{Steps};
 ghost use Rattle.fragment_run.specs.ProfilePromise.{ProfilePromise};
 ghost use Rattle.fragment_run.specs.list.ListPromise.{ListPromise};
 
-mod escape;
+mod ending;
 mod list;
-mod list_lines;
-mod numbers;
 mod orders;
 mod outline;
 mod profile_text;
 mod settings;
-mod skip;
 mod status;
 mod steps;
 #[cfg(test)]

@@ -8,12 +8,12 @@ ghost use Rattle.fragment_run.specs.inside.Outlines.{outline_of};
 ghost use Rattle.fragment_run.specs.inside.SettingsOf.{settings_value_of};
 
 use crate::settings::RunSettings;
-use crate::skip::Skip;
 use adducts::{Fit, fit, select_peaks, window};
 use element_table::{FormulaList, Formulas};
 use formula_lister::{ListFault, list};
 use mgf_reader::{Peak, Spectrum};
 use std::alloc::{AllocError, Global};
+use tree_certificate::Skip;
 
 /// What stands of a spectrum.
 #[derive(Drop)]

@@ -1,14 +1,14 @@
 //! How a run ended: the status, its code and the line that tells it.
 ghost use Rattle.std.specs.Prelude.{◌≡◌, ◌++◌, IfOk, OnOk, codes};
-ghost use Rattle.fragment_run.specs.Escape.{escaped};
+ghost use Rattle.tree_certificate.specs.Title.{escaped};
 ghost use Rattle.fragment_run.specs.declared.status.Status.TheVariants.{Memory};
 ghost use Rattle.fragment_run.specs.Status.{code_of, fault_line, refusal_text, slot_name_of};
 
-use crate::escape::push_escaped;
 use frag_io::Slot;
 use mgf_reader::MgfFault;
 use profile::{Name, ProfileFault};
 use std::alloc::{AllocError, Global};
+use tree_certificate::push_escaped;
 
 /// How a run ended.
 #[derive(Debug, Drop)]

@@ -5,7 +5,7 @@ ghost use Rattle.colour_graph.specs.Building.{root_alone};
 ghost use Rattle.colour_graph.specs.Graph.{IsScore};
 ghost use Rattle.element_table.specs.Formula.{IsWithin, loss_of};
 ghost use Rattle.element_table.specs.Rule.{IsNearZero};
-ghost use Rattle.score_tables.specs.Scores.{loss_score_of};
+ghost use Rattle.score_tables.specs.Scores.{greatest_single_score, loss_score_of};
 ghost use Rattle.loss_graph.specs.inside.Joining.{CanJoin, colours_at, edges_below, with_edges, without_edges};
 
 use crate::vertex::{Vertex, is_proper_part};
@@ -38,7 +38,7 @@ pub(crate) fn add_edges_to(
 ) -> Result<(), AllocError>
     requires can { CanJoin vertices.now }
     requires head { head < length vertices.now }
-    requires near { IsNearZero (2 * 10000) base }
+    requires near { IsNearZero (2 * greatest_single_score) base }
     requires colours { builder.old.colours ≡ colours_at vertices.now }
     requires before { All (λ edge. edge.head < head) builder.old.edges }
     ensures { IfOk result (λ _.
@@ -56,7 +56,7 @@ pub(crate) fn add_edges_to(
 /// The weight of an edge of which the head alone scores `base`.
 fn weight_between(scores: &Scores, tail: &Vertex, head: &Vertex, base: i32) -> i32
     requires part { IsWithin head.now.formula tail.now.formula }
-    requires near { IsNearZero (2 * 10000) base }
+    requires near { IsNearZero (2 * greatest_single_score) base }
     ensures weight { result ≡ loss_score_of scores.now (loss_of tail.now.formula head.now.formula) +ℤ base }
     ensures near { IsScore result }
 {

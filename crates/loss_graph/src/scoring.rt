@@ -4,6 +4,7 @@ ghost use Rattle.std.specs.List.{All};
 ghost use Rattle.element_table.specs.Rule.{IsNearZero};
 ghost use Rattle.element_table.specs.Window.{InWindow};
 ghost use Rattle.loss_graph.specs.Lists.{list_at, window_at};
+ghost use Rattle.score_tables.specs.Scores.{greatest_single_score};
 ghost use Rattle.loss_graph.specs.Lists as of_lists;
 ghost use Rattle.loss_graph.specs.LossGraph.{error_score_in, head_score_of};
 
@@ -34,7 +35,7 @@ pub(crate) fn error_score(
     requires measured { list.now.mz ≤ 10 ^ 18 }
     requires in_window { InWindow (window_at choice.now list.now) formula.now }
     ensures score { result ≡ error_score_in choice.now scores.now list.now formula.now }
-    ensures near { IsNearZero 10000 result }
+    ensures near { IsNearZero greatest_single_score result }
 {
     let window = window(choice, list.mz);
     let error = (formula.mass() as i64 - window.centre).unsigned_abs();
@@ -57,7 +58,7 @@ pub(crate) fn head_score(
     requires greatest { greatest ≡ of_lists.greatest_intensity lists.now }
     requires small { greatest ≤ 10 ^ 18 }
     ensures score { result ≡ head_score_of choice.now scores.now lists.now head.now }
-    ensures near { IsNearZero (2 * 10000) result }
+    ensures near { IsNearZero (2 * greatest_single_score) result }
 {
     let list = &lists[usize::from(head.peak)];
     let peak = scores.peak_score(list.intensity, greatest);

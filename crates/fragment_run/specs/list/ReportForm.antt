@@ -1,10 +1,10 @@
--- The report of a list: for each spectrum its lists of formulas, or why it was skipped, and an ending.
-use Rattle.std.specs.Prelude.{◌++◌, ℕ, List, codes, decimal, Option, Some, None}
+-- The report of a list: for each spectrum its lists of formulas, or why it was skipped, and an ending, as in a document.
+use Rattle.std.specs.Prelude.{◌++◌, ℕ, List, [], ◌∷◌, length, Option}
+use Rattle.std.specs.List.{flat_map}
 use Rattle.mgf_reader.specs.declared.fault.MgfFault.{MgfFault}
-use Rattle.mgf_reader.specs.Fault.{kind_text}
-use Rattle.fragment_run.specs.Escape.{escaped}
-use Rattle.fragment_run.specs.Skip.{skip_line}
-use Rattle.fragment_run.specs.ListLines.{lists_lines}
+use Rattle.tree_certificate.specs.Document.{ending_line, list_lines, text_of}
+use Rattle.tree_certificate.specs.Line.{Line, done_line, lists_line, skip_line, spectrum_line}
+use Rattle.fragment_run.specs.Ending.{ending_of}
 use Rattle.fragment_run.specs.Outline.{OutlineValue, skipped, listed}
 
 pub record Section : Type 0 where
@@ -12,16 +12,16 @@ pub record Section : Type 0 where
   pub title : List ℕ
   pub outline : OutlineValue
 
-abbrev pub outline_lines : OutlineValue → List ℕ
-outline_lines (skipped reason) = skip_line reason
-outline_lines (listed lists) = lists_lines lists
+-- the lines of a document's section, without its entries
+abbrev pub outline_lines : OutlineValue → List Line
+outline_lines (skipped reason) = skip_line reason ∷ []
+outline_lines (listed lists) = lists_line (length lists) ∷ flat_map list_lines lists
 
-abbrev pub section_lines : Section → List ℕ
-section_lines section =
-    codes "spectrum " ++ decimal section.line ++ codes " " ++ escaped section.title ++ codes "\n"
-    ++ outline_lines section.outline ++ codes "done\n"
+abbrev pub section_text : Section → List ℕ
+section_text section =
+    text_of (spectrum_line section.line section.title ∷ []) ++ text_of (outline_lines section.outline)
+    ++ text_of (done_line ∷ [])
 
 -- the ending tells the line that refused the text, where there is one
-abbrev pub ending_line : Option MgfFault → List ℕ
-ending_line None = codes "end clean\n"
-ending_line (Some fault) = codes "end refused " ++ decimal fault.line ++ codes " " ++ kind_text fault.kind ++ codes "\n"
+abbrev pub ending_text : Option MgfFault → List ℕ
+ending_text fault = text_of (ending_line (ending_of fault) ∷ [])

@@ -7,7 +7,7 @@ use Rattle.mgf_reader.specs.Grammar.{Reads}
 use Rattle.adducts.specs.Fit.{fit_of}
 use Rattle.fragment_run.specs.RunSettings.{RunSettingsValue}
 use Rattle.fragment_run.specs.Outline.{IsOutline}
-use Rattle.fragment_run.specs.list.ReportForm.{Section, section_lines, ending_line}
+use Rattle.fragment_run.specs.list.ReportForm.{Section, section_text, ending_text}
 
 -- the right section for a spectrum
 pub record IsSection (settings : RunSettingsValue) (spectrum : SpectrumValue) (section : Section) : Type 0 where
@@ -29,7 +29,7 @@ pub record IsReport (settings : RunSettingsValue) (text : List ℕ) (fault : Opt
   pub reads : Reads text spectra fault
   pub sections : List Section
   pub are_sections : AreSections settings spectra sections
-  pub form : bytes ≡ flat_map section_lines sections ++ ending_line fault
+  pub form : bytes ≡ flat_map section_text sections ++ ending_text fault
 
 -- A first part of the report of a text: of the right sections of its first spectra, and of the ending where these are
 -- all.
@@ -40,5 +40,5 @@ pub record IsReportPart (settings : RunSettingsValue) (text bytes : List ℕ) : 
   pub sections : List Section
   pub are_sections : AreSections settings (take (length sections) spectra) sections
   pub rest : List ℕ
-  pub form : flat_map section_lines sections
-      ++ (if nat_lt (length sections) (length spectra) then [] else ending_line fault) ≡ bytes ++ rest
+  pub form : flat_map section_text sections
+      ++ (if nat_lt (length sections) (length spectra) then [] else ending_text fault) ≡ bytes ++ rest

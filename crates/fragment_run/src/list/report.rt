@@ -6,7 +6,7 @@ ghost use Rattle.mgf_reader.specs.Stands.{Stands};
 ghost use Rattle.frag_io.specs.declared.desk.Slot.TheVariants.{Spectra};
 ghost use Rattle.fragment_run.specs.Limits.{greatest_text_of};
 ghost use Rattle.fragment_run.specs.inside.SettingsOf.{settings_value_of};
-ghost use Rattle.fragment_run.specs.list.ReportForm.{Section, section_lines};
+ghost use Rattle.fragment_run.specs.list.ReportForm.{Section, section_text};
 ghost use Rattle.fragment_run.specs.list.Sections.{AreSections, IsReport};
 
 use crate::list::section::{push_ending, push_section};
@@ -57,7 +57,7 @@ fn push_sections(
 ) -> Result<(), AllocError>
     ensures { OnOk result ((sections : List Section)
         × AreSections (settings_value_of settings.now) reader.old.waiting sections
-        × (report.new.items ≡ report.old.items ++ flat_map section_lines sections)) }
+        × (report.new.items ≡ report.old.items ++ flat_map section_text sections)) }
 {
     while let Some(spectrum) = reader.next() {
         push_section(alloc, report, &spectrum, settings)?;
