@@ -1,0 +1,7 @@
+mod SetParts
+mod PartWalk
+mod Raising
+mod TableNumbers
+mod EnoughIsHigh
+mod LowPlaces
+mod Verdicts

@@ -1,0 +1,47 @@
+use Rattle.std.proofs.Common.{ℕ, ◌≡◌, ◌+◌, ◌-◌, ◌<◌, ◌≤◌, ℤ, length, arith, refl, to_z, w64, SFits}
+use Rattle.std.proofs.lemmas.Int.{to_z-of_z}
+use Rattle.std.proofs.lemmas.Nat.{and_le_r}
+use Rattle.certificate_checker.specs.inside.Enough.{IsRaised, number_in}
+use Rattle.certificate_checker.proofs.PartWalk.{PartAt-before, PartAt-self, SFits-gain, SFits-number, enough-first, enough-last, enough-more, raised-as}
+use Rattle.certificate_checker.proofs.parts.greatest_sum.Goals as goal
+
+pub loop-part-init : goal.loop-part-init
+loop-part-init c =
+    let own = c.args.own.now in
+    let gains = c.args.gains.now in
+    let set = c.args.set in
+    let some : 0 < length own = omega (arith, c.requires.room.0) in
+    let number = to_z-of_z w64 (number_in own set) (SFits-number (number_in own set) (c.requires.numbers set c.requires.room.0)) in
+    let gain = to_z-of_z w64 (number_in gains 0) (SFits-gain (number_in gains 0) (c.requires.gains 0 some)) in
+    let most = to_z-of_z w64 c.raised-most.result (record { sfits = c.raised-most.type_inv }) in
+    let is : IsRaised c.raised-most.result (number_in own set) (number_in gains 0) (number_in own set) =
+    raised-as _ _ _ _ _ _ _ _ refl number gain number c.raised-most.ensures in
+    rw most (record {
+      within = omega arith;
+      part = λ colours at. PartAt-self colours set at;
+      enough = λ colours at. enough-first own gains colours set c.raised-most.result at is;
+    })
+
+pub loop-part-preserved : goal.loop-part-preserved
+loop-part-preserved c =
+    let own = c.args.own.now in
+    let gains = c.args.gains.now in
+    let set = c.args.set in
+    let part = c.loop-part.part in
+    let before = to_z w64 c.loop-part.most-bits in
+    let in_set : part < length own = omega (arith, c.requires.room.0, c.loop-part.invariant.within) in
+    let left : set - part < length own = omega (arith, c.requires.room.0) in
+    let number = to_z-of_z w64 (number_in own (set - part)) (SFits-number (number_in own (set - part)) (c.requires.numbers (set - part) left)) in
+    let gain = to_z-of_z w64 (number_in gains part) (SFits-gain (number_in gains part) (c.requires.gains part in_set)) in
+    let most = to_z-of_z w64 c.raised-most-in-loop-part.result (record { sfits = c.raised-most-in-loop-part.type_inv }) in
+    let is : IsRaised c.raised-most-in-loop-part.result before (number_in gains part) (number_in own (set - part)) =
+    raised-as _ _ _ _ _ _ _ _ refl refl gain number c.raised-most-in-loop-part.ensures in
+    rw most (record {
+      within = and_le_r (part - 1) set;
+      part = λ colours at. PartAt-before colours set part at (c.loop-part.invariant.part colours at) c.loop-part-test.true;
+      enough = λ colours at. enough-more own gains colours set part before c.raised-most-in-loop-part.result at
+          (c.loop-part.invariant.part colours at) c.loop-part-test.true (c.loop-part.invariant.enough colours at) is;
+    })
+
+pub returns : goal.returns
+returns c = λ colours at. enough-last c.args.own.now c.args.gains.now colours c.loop-part.part (to_z w64 c.loop-part.most-bits) (omega arith) (c.loop-part.invariant.enough colours at)

@@ -1,0 +1,34 @@
+//! Whether a certificate holds.
+ghost use Rattle.std.specs.Prelude.{◌≡◌, ◌≤◌, ◌↔◌, IfOk, Ok, length};
+ghost use Rattle.colour_graph.specs.Bounded.{IsBounded};
+ghost use Rattle.colour_graph.specs.EdgeSet.{all_edges};
+ghost use Rattle.tree_certificate.specs.CertHolds.{CertHolds};
+ghost use Rattle.tree_certificate.specs.Value.{cert_of};
+ghost use Rattle.certificate_checker.specs.Places.{IsVerdict};
+ghost use Rattle.certificate_checker.specs.declared.place.Verdict.TheVariants.{Holds};
+
+use crate::place::Verdict;
+use crate::table::check_table;
+use colour_graph::ColourGraph;
+use std::alloc::{AllocError, Global};
+use tree_certificate::{Cert, what_holds_bounds_every_tree};
+
+/// Whether a certificate holds for an upper bound of a graph of at most 512 vertices, or the first place where it fails.
+/// One that holds shows that no colourful list of edges scores more.
+pub fn check_cert(
+    alloc: Global,
+    graph: &ColourGraph,
+    cert: &Cert,
+    upper: i64,
+) -> Result<Verdict, AllocError>
+    requires vertices { length graph.now.colours ≤ 512 }
+    ensures verdict { IfOk result (λ verdict. IsVerdict graph.now (cert_of cert.now) upper verdict) }
+    ensures exactly { IfOk result (λ verdict. (verdict ≡ Holds) ↔ CertHolds graph.now (cert_of cert.now) upper) }
+    ensures bounded { result ≡ Ok Holds → IsBounded graph.now (all_edges graph.now) upper }
+{
+    what_holds_bounds_every_tree();
+    let _edges = graph.edge_count();
+    match cert {
+        Cert::Table(table) => check_table(alloc, graph, table.rows(), upper),
+    }
+}
