@@ -1,0 +1,18 @@
+use Rattle.std.proofs.Common.{◌≡◌, ◌≤◌, ◌<◌, ◌+◌, ◌*◌, ◌↔◌, ℕ, ℤ, ◌≤ℤ◌, List, Bool, length}
+use Rattle.subset_tree.specs.inside.Filling.{AreModest, IsEnough, number_in}
+use Rattle.tree_certificate.specs.ColourSet.{place_of}
+use Rattle.subset_tree.proofs.table.widen.Given as goal
+
+abbrev pub invariant-loop-set : goal.invariant-loop-set
+invariant-loop-set l = record {
+  within : l.set ≤ length l.gains;
+  long : length l.numbers ≡ length l.initial.numbers;
+  modest : AreModest l.numbers;
+  below : (place : ℕ) → place < l.set → number_in l.numbers place ≡ number_in l.initial.numbers place;
+  kept : (place : ℕ) → l.set ≤ place → place < length l.gains → number_in l.numbers (2 * place) ≡ number_in l.initial.numbers place;
+  grown : (set : List Bool) → l.set ≤ place_of set → place_of set < length l.gains → (upper : ℤ)
+      → (number_in l.numbers (1 + 2 * place_of set) ≤ℤ upper) ↔ IsEnough l.initial.numbers l.gains set upper;
+}
+
+abbrev pub decreases-loop-set : goal.decreases-loop-set
+decreases-loop-set l = l.set
