@@ -1,4 +1,4 @@
--- The set that is left where a colour keeps only some of its edges.
+-- Of only and AreBack: the set that is left where a colour keeps only some of its edges.
 use Rattle.std.proofs.Common.{◌≡◌, ◌<◌, ◌∙◌, ◌⊎◌, inl, inr, ℕ, Bool, true, false, not, ◌&&◌, ◌||◌, eqb, leb, ltb, List, length, ap, sym, refl, arith}
 use Rattle.std.proofs.lemmas.Bool.{cases_eq, and_from, and_parts, eq-eqb, false_from_ne_true, leb-true, le-leb, lt-ltb, ltb-true, ne_eqb}
 use Rattle.colour_graph.specs.EdgeSet.{AreInto, is_allowed, is_named, keeping, only}

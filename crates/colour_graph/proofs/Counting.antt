@@ -1,4 +1,4 @@
--- How many edges of a set go to a colour, counted one after another.
+-- Of edges_into: how many edges of a set go to a colour, counted one after another.
 use Rattle.std.proofs.Common.{◌≡◌, ◌+◌, ◌-◌, ◌<◌, ◌≤◌, ◌∙◌, ℕ, zero, suc, Bool, true, false, cond, ◌&&◌, eqb, List, [], ◌∷◌, ◌++◌, length, ap, sym, refl, arith}
 use Rattle.std.proofs.lemmas.Bool.{eq-eqb, ne_eqb, and_right}
 use Rattle.std.proofs.lemmas.List.{length-append, map-id}

@@ -1,4 +1,5 @@
--- Worked examples, computed: a graph with a trap, where the heaviest edge from the root is not in the best tree, and the root alone.
+-- Of all definitions: worked examples, computed: a graph with a trap, where the heaviest edge from the root is not in
+-- the best tree, and the root alone.
 use Rattle.std.proofs.Common.{◌≡◌, ◌≢◌, ◌+◌, ◌<◌, ◌≤◌, ◌⊎◌, inl, inr, ℕ, zero, suc, ℤ, pos, negsuc, ◌+ℤ◌, ◌≤ℤ◌, true, false, List, [], ◌∷◌, refl, arith, sym, ◌∙◌, subst}
 use Rattle.std.proofs.lemmas.Int.{ints}
 use Rattle.std.specs.List.{All, AllPairs, Contains}

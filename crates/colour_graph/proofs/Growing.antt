@@ -1,4 +1,4 @@
--- One more vertex or edge leaves a graph.
+-- Of with_vertex and with_edge: one more vertex or edge leaves a graph.
 use Rattle.std.proofs.Common.{◌≡◌, ◌+◌, ◌-◌, ◌<◌, ◌≤◌, ◌∙◌, ◌⊎◌, inl, inr, ◌++◌, [], ◌∷◌, ℕ, pos, length, get_or, ap, arith}
 use Rattle.std.proofs.lemmas.Bool.{cases_lt}
 use Rattle.std.proofs.lemmas.List.{get_or_append_left, get_or_default, get_or_push, length_push}

@@ -1,4 +1,4 @@
--- The heads and their colours of the edges that were looked at, as bits.
+-- Of AreApart and AreHeads: the heads and their colours of the edges that were looked at, as bits.
 use Rattle.std.proofs.Common.{◌≡◌, ◌≢◌, ◌+◌, ◌/◌, ◌%◌, ◌^◌, ◌<◌, ◌≤◌, ◌∙◌, ◌⊎◌, inl, inr, ℕ, true, false, ◌||◌, eqb, List, length, replicate, get_or, ap, sym, arith}
 use Rattle.std.specs.Prelude.{◌↔◌}
 use Rattle.std.proofs.lemmas.Bool.{cases_eq, cases_lt, eq-eqb, eqb-true, false≢true, or_cases, or_left, or_right}

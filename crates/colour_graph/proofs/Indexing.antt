@@ -1,4 +1,4 @@
--- How the index of a graph is made, and what it tells.
+-- Of IsIndex and AreInto: how the index of a graph is made, and what it tells.
 use Rattle.std.proofs.Common.{◌≡◌, ◌+◌, ◌-◌, ◌<◌, ◌≤◌, ◌∙◌, ◌⊎◌, inl, inr, ℕ, List, length, get_or, sym, arith}
 use Rattle.std.proofs.lemmas.Bool.{cases_lt}
 use Rattle.std.proofs.lemmas.List.{get_or_default}

@@ -1,4 +1,4 @@
--- What setting and clearing one bit leaves, and lists of truth values that are kept as bits.
+-- Of is_marked and marks_of: what setting and clearing one bit leaves, and lists of truth values that are kept as bits.
 use Rattle.std.proofs.Common.{◌≡◌, ◌*◌, ◌-◌, ◌/◌, ◌%◌, ◌^◌, ◌<◌, ◌∙◌, ◌⊎◌, inl, inr, ℕ, Bool, not, ◌&&◌, ◌||◌, List, length, get_or, set, eqb, ap, sym, arith}
 use Rattle.std.proofs.lemmas.Bool.{cases_eq, eq-eqb, ne_eqb, or_left, and_left, not_from_true}
 use Rattle.std.proofs.lemmas.List.{get_or-set_other, get_or-set_same}

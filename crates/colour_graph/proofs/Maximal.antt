@@ -1,4 +1,5 @@
--- A best list of edges is maximal: with an edge in front that could be added with gain it would score more.
+-- Of IsBest and IsMaximal: a best list of edges is maximal, since with an edge in front that could be added with gain
+-- it would score more.
 use Rattle.std.proofs.Common.{◌≢◌, ◌<◌, ℕ, suc, ℤ, pos, ◌+ℤ◌, ◌≤ℤ◌, true, IsTrue, List, ◌∷◌, length, get_or, sym, arith}
 use Rattle.std.proofs.lemmas.Int.{ints}
 use Rattle.std.proofs.lemmas.List.{get_or-replicate}

@@ -1,4 +1,4 @@
--- Edges that stand in order are few, and the colours of their heads never fall.
+-- Of IsGraph and CanIndex: edges that stand in order are few, and the colours of their heads never fall.
 use Rattle.std.proofs.Common.{◌≡◌, ◌+◌, ◌*◌, ◌-◌, ◌<◌, ◌≤◌, ◌⊎◌, inl, inr, ℕ, zero, suc, pos, length, get_or, arith}
 use Rattle.std.proofs.lemmas.Bool.{cases_eq, cases_lt}
 use Rattle.colour_graph.specs.declared.edge.Edge.{Edge}

@@ -1,4 +1,4 @@
--- The score of a list of edges, one edge after another.
+-- Of score_of: the score of a list of edges, one edge after another.
 use Rattle.std.proofs.Common.{◌≡◌, ◌+◌, ◌*◌, ◌<◌, ◌≤◌, ◌∙◌, ℕ, ℤ, pos, ◌+ℤ◌, ◌≤ℤ◌, List, [], ◌∷◌, ◌++◌, length, get_or, take, ap, arith, rules, to_z, of_z, negsuc, w32, w64}
 use Rattle.std.proofs.lemmas.Int.{ints, to_z-of_z}
 use Rattle.std.proofs.lemmas.List.{map_more}

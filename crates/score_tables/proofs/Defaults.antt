@@ -1,4 +1,4 @@
--- The default tables are right.
+-- Of default_tables and IsScores: the default tables are right.
 use Rattle.std.proofs.Common.{◌≡◌, ◌≢◌, ◌≤◌, ℕ, zero, suc, ℤ, pos, Bool, true, false, ◌&&◌, not, List, [], ◌∷◌, length, get_or, drop, refl, sym, arith, All, AllPairs, eqb, leb, ◌+◌, ◌-◌, ◌∙◌, inl, inr}
 use Rattle.std.specs.Prelude.{bytes_eq, int_le, neg_ℤ}
 use Rattle.std.specs.List.{list_all}

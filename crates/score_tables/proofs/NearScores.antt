@@ -1,4 +1,4 @@
--- Scores that are read from tables lie near 0.
+-- Of first_score and loss_score_of: scores that are read from tables lie near 0.
 use Rattle.std.proofs.Common.{◌≡◌, ℕ, ℤ, pos, Bool, true, false, cond, List, [], ◌∷◌, Option, Some, None, ◌+ℤ◌, ◌-ℤ◌, arith, w16, w32, FitsSigned, to_z, of_z}
 use Rattle.std.specs.Prelude.{unwrap_or, All, IfSome}
 use Rattle.std.specs.FinMap.{find}
