@@ -17,8 +17,8 @@ pub record IsShapePlace (graph : Graph) (rows : List (List ℤ)) (vertex : ℕ) 
   pub fails : ((vertex < length graph.colours) × ¬ (HasRow graph rows vertex))
       ⊎ ((vertex ≡ length graph.colours) × (length graph.colours < length rows))
 
--- The least number that is high enough for a vertex at a place of its row: 0 for no colour, else the greatest of what it
--- is to be at least.
+-- The least number that is high enough for a vertex at a place of its row: 0 for no colour, else the greatest of what
+-- it is to be at least.
 pub record IsNeeded (graph : Graph) (rows : List (List ℤ)) (vertex place : ℕ) (needed : ℤ) : Type 0 where
   pub empty : place ≡ 0 → needed ≡ pos 0
   pub high : (set : List Bool) → colour_of graph vertex + length set < colour_count graph
@@ -29,8 +29,8 @@ pub record IsNeeded (graph : Graph) (rows : List (List ℤ)) (vertex place : ℕ
 abbrev pub ComesBefore : ℕ → ℕ → ℕ → ℕ → Type 0
 ComesBefore vertex place other later = (vertex < other) ⊎ ((vertex ≡ other) × (place < later))
 
--- The first number of a table that is not high enough, by vertex and then by place, with what it is and what it is to be
--- at least.
+-- The first number of a table that is not high enough, by vertex and then by place, with what it is and what it is to
+-- be at least.
 pub record IsRowPlace (graph : Graph) (rows : List (List ℤ)) (vertex place : ℕ) (held needed : ℤ) : Type 0 where
   pub fits : FitsGraph graph rows
   pub in_graph : vertex < length graph.colours

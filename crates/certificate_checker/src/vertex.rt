@@ -11,8 +11,8 @@ use crate::low::Low;
 use crate::parts::least_enough;
 use colour_graph::{Colour, ColourGraph, VertexId};
 
-/// The first number of a vertex that is too low. Two buffers of one length are written over, each with room for a number
-/// for each set of all colours.
+/// The first number of a vertex that is too low. Two buffers of one length are written over, each with room for a
+/// number for each set of all colours.
 pub(crate) fn first_low_of(
     graph: &ColourGraph,
     rows: &[Vec<i64>],

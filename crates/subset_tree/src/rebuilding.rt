@@ -1,5 +1,5 @@
-//! Reading a best colourful list of edges out of a table of exact numbers: colour by colour, each left out by the vertex
-//! that owns it or taken by an edge from there.
+//! Reading a best colourful list of edges out of a table of exact numbers: colour by colour, each left out by the
+//! vertex that owns it or taken by an edge from there.
 ghost use Rattle.std.specs.Prelude.{◌≡◌, ◌≤◌, ◌<◌, ◌+◌, ◌-◌, ◌∷◌, ◌^◌, ℕ, List, Bool, IfOk, MatchOption, drop, length, map};
 ghost use Rattle.std.specs.Prelude.{negsuc, pos, slice_index, ◌≤ℤ◌};
 ghost use Rattle.std.specs.List.{All, AllPairs};
@@ -187,8 +187,8 @@ fn number_at(
     rows[usize::from(vertex)][step * place]
 }
 
-/// 2 to a small number: how far the places of sets of the colours behind one stand apart in the row of a vertex that has
-/// so many colours more before them.
+/// 2 to a small number: how far the places of sets of the colours behind one stand apart in the row of a vertex that
+/// has so many colours more before them.
 fn step_of(more: u16) -> usize
     requires { more ≤ 12 }
     ensures { result ≡ 2 ^ more }

@@ -15,8 +15,8 @@ use colour_graph::{ColourGraph, EdgeId, a_best_list_is_maximal};
 use std::alloc::{AllocError, Global};
 use tree_certificate::{TableCert, the_cap_bounds_every_tree, what_holds_bounds_every_tree};
 
-/// A colourful tree of a graph of at most 12 colours and 512 vertices that no colourful tree outscores, as the numbers of
-/// its edges in rising order; and the table that holds with its score as upper bound.
+/// A colourful tree of a graph of at most 12 colours and 512 vertices that no colourful tree outscores, as the numbers
+/// of its edges in rising order; and the table that holds with its score as upper bound.
 pub fn solve_small(
     alloc: Global,
     graph: &ColourGraph,

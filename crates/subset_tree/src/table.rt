@@ -91,7 +91,8 @@ fn gather_gains(
     requires room { length gains.old ≡ 2 ^ (colour_count graph.now - colour) }
     ensures room { length gains.new ≡ length gains.old }
     ensures exact { AreGainsBefore graph.now (map (λ row. row.items) rows.now) vertex colour (length graph.now.edges) gains.new }
-    ensures none { result ≡ false → (place : ℕ) → place < length gains.old → number_in gains.new place ≡ negsuc 999999999 }
+    ensures none { result ≡ false → (place : ℕ) → place < length gains.old
+        → number_in gains.new place ≡ negsuc 999999999 }
 {
     clear_gains(gains);
     let (first, past) = graph.edges_into(colour);
@@ -151,7 +152,8 @@ fn widen(numbers: &mut [i64], gains: &[i64], any: bool)
     requires few { length numbers.old ≤ 4096 }
     requires gains { AreGains gains.now }
     requires modest { AreModest numbers.old }
-    requires none { any ≡ false → (place : ℕ) → place < length gains.now → number_in gains.now place ≡ negsuc 999999999 }
+    requires none { any ≡ false → (place : ℕ) → place < length gains.now
+        → number_in gains.now place ≡ negsuc 999999999 }
     ensures length { length numbers.new ≡ length numbers.old }
     ensures modest { AreModest numbers.new }
     ensures kept { (place : ℕ) → place < length gains.now
@@ -174,7 +176,8 @@ fn least_enough(numbers: &[i64], gains: &[i64], set: usize, any: bool) -> i64
     requires room { (set < length numbers.now) × (set < length gains.now) }
     requires modest { AreModest numbers.now }
     requires gains { AreGains gains.now }
-    requires none { any ≡ false → (place : ℕ) → place < length gains.now → number_in gains.now place ≡ negsuc 999999999 }
+    requires none { any ≡ false → (place : ℕ) → place < length gains.now
+        → number_in gains.now place ≡ negsuc 999999999 }
     ensures enough { (colours : List Bool) → place_of colours ≡ set → (upper : ℤ)
         → (result ≤ℤ upper) ↔ IsEnough numbers.now gains.now colours upper }
     ensures not_below { pos 0 ≤ℤ result }

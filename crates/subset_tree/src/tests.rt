@@ -122,7 +122,7 @@ fn weight_of(sample: u64) -> i32
     }
 }
 
-/// A graph of three colours with two, four and one vertices, and all edges between vertices of different colours.
+/// A graph of three colours with two, two and one vertices, and all edges between vertices of different colours.
 fn sample_graph(alloc: Global, seed: u64) -> Result<ColourGraph, AllocError> {
     let mut builder = GraphBuilder::new(alloc, 1)?;
     builder.vertex(1)?;

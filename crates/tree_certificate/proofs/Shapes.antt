@@ -9,7 +9,7 @@ use Rattle.std.proofs.lemmas.Option.{none-some, same_Some}
 use Rattle.std.proofs.lemmas.Slice.Eq.{bytes_eq-Decides}
 use Rattle.tree_certificate.specs.declared.document.Skip.{Skip}
 use Rattle.tree_certificate.specs.declared.document.Skip.TheVariants.{NoPrecursor, Charge, Range, TooMany}
-use Rattle.tree_certificate.specs.Line.{Field, a_word, a_number, a_kind, greatest_line, greatest_peak_number, greatest_vertices, LineShape, form, form_of, Line, header_line, clean_line, refused_line, spectrum_line, skip_line, lists_line, list_line, formula_line, entries_line, too_large_line, tree_line, row_line, table_line, table_row_line, done_line, Spells, WritesFields, field_text, in_range, is_field_in_range, line_text}
+use Rattle.tree_certificate.specs.Line.{Field, a_word, a_number, a_kind, greatest_line_number, greatest_peak_number, greatest_rows, LineShape, form, form_of, Line, header_line, clean_line, refused_line, spectrum_line, skip_line, lists_line, list_line, formula_line, entries_line, too_large_line, tree_line, row_line, table_line, table_row_line, done_line, Spells, WritesFields, field_text, in_range, is_field_in_range, line_text}
 use Rattle.tree_certificate.specs.Number.{greatest_number}
 use Rattle.tree_certificate.specs.inside.Field.{Kind, word_kind, number_kind, signed_kind, formula_kind, mark_kind, Of, Tail, no_tail, Values, behind_word, field_of, fields_of, form_at, signed_in, token_at, value_at, value_in, values_at}
 use Rattle.tree_certificate.specs.inside.Need.{Need, need_document, need_sections, need_body, need_list, need_formula, need_entries, need_entry, need_row, need_cert, need_table_row, need_done, Shape, first_line, follow, line_at, line_with, or_else, shapes_of, header_shape, clean_shape, refused_shape, spectrum_shape, no_precursor_shape, charge_shape, range_shape, too_many_shape, lists_shape, list_shape, formula_shape, entries_shape, too_large_shape, tree_shape, row_shape, table_shape, table_row_shape, done_shape}
@@ -197,15 +197,15 @@ single known need shape is values text spelled at = by_shape known need shape is
 
 tree_fails : Known → (candidate : List ℕ) (error vertices : ℕ) (text : List ℕ) → Spells (too_large_line candidate error vertices) text → line_with tree_shape text ≡ None
 tree_fails known candidate error vertices text is =
-    let first = value_complete known formula_kind candidate (a_number 0 2000000 error ∷ a_word (codes "too-large") ∷ a_number 0 greatest_line vertices ∷ []) is.0 refl is.2 in
-    let second = value_complete known (number_kind 0 2000000) error (a_word (codes "too-large") ∷ a_number 0 greatest_line vertices ∷ []) first.0 refl first.2 in
-    let third = first_token known (word_kind (codes "too-large")) tt (a_number 0 greatest_line vertices ∷ []) second.0 refl second.2 in
+    let first = value_complete known formula_kind candidate (a_number 0 2000000 error ∷ a_word (codes "too-large") ∷ a_number 0 greatest_line_number vertices ∷ []) is.0 refl is.2 in
+    let second = value_complete known (number_kind 0 2000000) error (a_word (codes "too-large") ∷ a_number 0 greatest_line_number vertices ∷ []) first.0 refl first.2 in
+    let third = first_token known (word_kind (codes "too-large")) tt (a_number 0 greatest_line_number vertices ∷ []) second.0 refl second.2 in
     let none : value_at (signed_kind greatest_number) second.0 ≡ None =
     ap (option_and_then (λ (both : List ℕ × List ℕ). option_map {U = ℤ × List ℕ} (λ v. (v, both.1)) (signed_in both.0))) third.2
     ∙ ap (λ token. option_map {U = ℤ × List ℕ} (λ v. (v, third.1)) (signed_in token)) third.3 in
     fails tree_shape text is.0 is.1
-    (later_fails formula_kind (number_kind 0 2000000 ∷ signed_kind greatest_number ∷ signed_kind greatest_number ∷ mark_kind ∷ number_kind 0 greatest_vertices ∷ []) no_tail is.0 first.0 candidate first.1
-    (later_fails (number_kind 0 2000000) (signed_kind greatest_number ∷ signed_kind greatest_number ∷ mark_kind ∷ number_kind 0 greatest_vertices ∷ []) no_tail first.0 second.0 _ second.1 (ap (first_then (signed_kind greatest_number) (signed_kind greatest_number ∷ mark_kind ∷ number_kind 0 greatest_vertices ∷ []) no_tail) none)))
+    (later_fails formula_kind (number_kind 0 2000000 ∷ signed_kind greatest_number ∷ signed_kind greatest_number ∷ mark_kind ∷ number_kind 0 greatest_rows ∷ []) no_tail is.0 first.0 candidate first.1
+    (later_fails (number_kind 0 2000000) (signed_kind greatest_number ∷ signed_kind greatest_number ∷ mark_kind ∷ number_kind 0 greatest_rows ∷ []) no_tail first.0 second.0 _ second.1 (ap (first_then (signed_kind greatest_number) (signed_kind greatest_number ∷ mark_kind ∷ number_kind 0 greatest_rows ∷ []) no_tail) none)))
 
 skip_read : Known → (text : List ℕ) (reason : Skip) → Spells (skip_line reason) text → IsRead need_body text (skip_line reason)
 skip_read known text NoPrecursor is =
@@ -246,7 +246,7 @@ section_read known text clean_line more may is =
     ∙ ap (λ o. or_else o (first_line (refused_shape ∷ []) text)) read)
 section_read known text (refused_line line kind) more may is =
     let none : line_with spectrum_shape text ≡ None = ap (line_with spectrum_shape) is.1 in
-    let other : line_with clean_shape text ≡ None = fails clean_shape text is.0 is.1 (word_fails known (codes "refused") (codes "clean") (a_number 0 greatest_line line ∷ a_kind kind ∷ []) [] no_tail is.0 refl refl is.2) in
+    let other : line_with clean_shape text ≡ None = fails clean_shape text is.0 is.1 (word_fails known (codes "refused") (codes "clean") (a_number 0 greatest_line_number line ∷ a_kind kind ∷ []) [] no_tail is.0 refl refl is.2) in
     by_shape known need_sections refused_shape (are_shapes need_sections).1.1.0 (tt, (line, (kind, tt))) text is (λ it read. ap (λ o. or_else o (first_line (clean_shape ∷ refused_shape ∷ []) text)) none
     ∙ ap (λ o. or_else o (first_line (refused_shape ∷ []) text)) other ∙ ap (λ o. or_else o (first_line [] text)) read)
 section_read known text whole more may is = absurd (none-some more may)

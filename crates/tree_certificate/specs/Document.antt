@@ -22,14 +22,17 @@ cert_lines (a_table rows) = table_line (length rows) ∷ map table_row_line rows
 
 abbrev pub outcome_lines : List ℕ → ℕ → Outcome → List Line
 outcome_lines candidate error (TooLarge vertices) = too_large_line candidate error vertices ∷ []
-outcome_lines candidate error (Tree it) = tree_line candidate error it.score it.upper it.mark (length it.rows) ∷ map row_line it.rows ++ cert_lines it.cert
+outcome_lines candidate error (Tree it) =
+    tree_line candidate error it.score it.upper it.mark (length it.rows) ∷ map row_line it.rows ++ cert_lines it.cert
 
 abbrev pub entry_lines : Entry → List Line
 entry_lines entry = outcome_lines entry.candidate entry.error entry.outcome
 
 abbrev pub body_lines : Body → List Line
 body_lines (Skipped reason) = skip_line reason ∷ []
-body_lines (Solved it) = lists_line (length it.lists) ∷ flat_map list_lines it.lists ++ entries_line (length it.entries) ∷ flat_map entry_lines it.entries
+body_lines (Solved it) =
+    lists_line (length it.lists) ∷ flat_map list_lines it.lists ++ entries_line (length it.entries)
+    ∷ flat_map entry_lines it.entries
 
 abbrev pub section_lines : Section → List Line
 section_lines section = spectrum_line section.line section.title ∷ body_lines section.body ++ done_line ∷ []
@@ -49,8 +52,8 @@ text_of lines = flat_map (λ line. line_text line ++ codes "\n") lines
 abbrev pub spelling_of : Document → List ℕ
 spelling_of document = text_of (lines_of document)
 
--- a line whose numbers are in their ranges and that has a spelling: its formulas are formulas, its title is bytes, its kind is one of
--- the ten, and a row of a table has a number
+-- a line whose numbers are in their ranges and that has a spelling: its formulas are formulas, its title is bytes, its
+-- kind is one of the ten, and a row of a table has a number
 pub record IsGoodLine (line : Line) : Type 0 where
   pub in_range : IsTrue (in_range line)
   pub spelled : Spells line (line_text line)

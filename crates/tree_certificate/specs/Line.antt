@@ -1,5 +1,5 @@
--- The lines of a document: one table of their forms, and what follows from it. A line is a value here, and its numbers have
--- any size.
+-- The lines of a document: one table of their forms, and what follows from it. A line is a value here, and its numbers
+-- have any size.
 use Rattle.std.specs.Prelude.{◌≡◌, ◌≤◌, ◌++◌, ◌==◌, ℕ, ℤ, pos, negsuc, suc, Bool, true, false, not, ◌&&◌, nat_le, IsTrue, List, [], ◌∷◌, length, codes, decimal, Option, Some, None}
 use Rattle.std.specs.Char.{is_ascii_digit}
 use Rattle.std.specs.Fmt.{signed_decimal}
@@ -56,16 +56,17 @@ abbrev pub form : List ℕ → List Field → LineShape
 form word fields = record { word = word; fields = fields }
 
 -- the greatest line of a text, and the greatest number of vertices of a graph that is told
-abbrev pub greatest_line : ℕ
-greatest_line = 4294967295
+abbrev pub greatest_line_number : ℕ
+greatest_line_number = 4294967295
 
 -- in units of 10^-7 and 10^-6
 abbrev pub greatest_peak_number : ℕ
 greatest_peak_number = 1000000000000000000
 
--- vertices of a graph that is solved, and so rows of its table; an entry's rows and the numbers of its lists are no more
-abbrev pub greatest_vertices : ℕ
-greatest_vertices = 512
+-- vertices of a graph that is solved, and so rows of its table; an entry's rows and the numbers of its lists are no
+-- more
+abbrev pub greatest_rows : ℕ
+greatest_rows = 512
 
 abbrev pub skip_form : Skip → LineShape
 skip_form NoPrecursor = form (codes "skip") (a_word (codes "no-precursor") ∷ [])
@@ -77,19 +78,26 @@ skip_form (TooMany mz) = form (codes "skip") (a_word (codes "too-many") ∷ a_nu
 abbrev pub form_of : Line → LineShape
 form_of header_line = form (codes "fragdoc") (a_word (codes "1") ∷ [])
 form_of clean_line = form (codes "end") (a_word (codes "clean") ∷ [])
-form_of (refused_line line kind) = form (codes "end") (a_word (codes "refused") ∷ a_number 0 greatest_line line ∷ a_kind kind ∷ [])
-form_of (spectrum_line line title) = form (codes "spectrum") (a_number 0 greatest_line line ∷ a_title title ∷ [])
+form_of (refused_line line kind) =
+    form (codes "end") (a_word (codes "refused") ∷ a_number 0 greatest_line_number line ∷ a_kind kind ∷ [])
+form_of (spectrum_line line title) = form (codes "spectrum") (a_number 0 greatest_line_number line ∷ a_title title ∷ [])
 form_of (skip_line reason) = skip_form reason
 form_of (lists_line count) = form (codes "lists") (a_number 1 41 count ∷ [])
-form_of (list_line mz intensity count) = form (codes "list") (a_number 0 greatest_peak_number mz ∷ a_number 0 greatest_peak_number intensity ∷ a_number 0 20000 count ∷ [])
+form_of (list_line mz intensity count) =
+    form (codes "list") (a_number 0 greatest_peak_number mz ∷ a_number 0 greatest_peak_number intensity
+    ∷ a_number 0 20000 count ∷ [])
 form_of (formula_line counts) = form (codes "f") (a_formula counts ∷ [])
 form_of (entries_line count) = form (codes "entries") (a_number 0 20000 count ∷ [])
-form_of (too_large_line candidate error vertices) = form (codes "entry") (a_formula candidate ∷ a_number 0 2000000 error ∷ a_word (codes "too-large") ∷ a_number 0 greatest_line vertices ∷ [])
+form_of (too_large_line candidate error vertices) =
+    form (codes "entry") (a_formula candidate ∷ a_number 0 2000000 error ∷ a_word (codes "too-large")
+    ∷ a_number 0 greatest_line_number vertices ∷ [])
 form_of (tree_line candidate error score upper mark count) = form (codes "entry")
-    (a_formula candidate ∷ a_number 0 2000000 error ∷ a_signed greatest_number score ∷ a_signed greatest_number upper ∷ a_mark mark ∷ a_number 0 greatest_vertices count ∷ [])
+    (a_formula candidate ∷ a_number 0 2000000 error ∷ a_signed greatest_number score ∷ a_signed greatest_number upper
+    ∷ a_mark mark ∷ a_number 0 greatest_rows count ∷ [])
 form_of (row_line it) = form (codes "r")
-    (a_number 0 131071 it.edge ∷ a_number 0 greatest_vertices it.parent ∷ a_number 0 greatest_vertices it.peak ∷ a_formula it.formula ∷ a_formula it.loss ∷ a_signed 100000 it.weight ∷ [])
-form_of (table_line count) = form (codes "table") (a_number 0 greatest_vertices count ∷ [])
+    (a_number 0 131071 it.edge ∷ a_number 0 greatest_rows it.parent ∷ a_number 0 greatest_rows it.peak
+    ∷ a_formula it.formula ∷ a_formula it.loss ∷ a_signed 100000 it.weight ∷ [])
+form_of (table_line count) = form (codes "table") (a_number 0 greatest_rows count ∷ [])
 form_of (table_row_line items) = form (codes "t") (some_numbers 4096 greatest_number items ∷ [])
 form_of done_line = form (codes "done") []
 
@@ -145,10 +153,12 @@ WritesSigned (negsuc number) text = (digits : List ℕ) × (text ≡ 45 ∷ digi
 -- a text writes numbers, each with a space before it
 abbrev pub WritesAll : List ℤ → List ℕ → Type 0
 WritesAll [] text = text ≡ []
-WritesAll (number ∷ numbers) text = (front : List ℕ) × (rest : List ℕ) × (text ≡ 32 ∷ (front ++ rest)) × WritesSigned number front × WritesAll numbers rest
+WritesAll (number ∷ numbers) text =
+    (front : List ℕ) × (rest : List ℕ) × (text ≡ 32 ∷ (front ++ rest)) × WritesSigned number front
+    × WritesAll numbers rest
 
--- A text is a spelling of a field, the space before it included. There is one for each field; only a number past its range is left
--- as its digits.
+-- A text is a spelling of a field, the space before it included. There is one for each field; only a number past its
+-- range is left as its digits.
 abbrev pub WritesField : Field → List ℕ → Type 0
 WritesField (a_word word) text = text ≡ 32 ∷ word
 WritesField (a_number least most number) text = (digits : List ℕ) × (text ≡ 32 ∷ digits) × WritesNumber number digits
@@ -161,7 +171,8 @@ WritesField (some_numbers count most numbers) text = (1 ≤ length numbers) × W
 
 abbrev pub WritesFields : List Field → List ℕ → Type 0
 WritesFields [] text = text ≡ []
-WritesFields (field ∷ fields) text = (front : List ℕ) × (rest : List ℕ) × (text ≡ front ++ rest) × WritesField field front × WritesFields fields rest
+WritesFields (field ∷ fields) text =
+    (front : List ℕ) × (rest : List ℕ) × (text ≡ front ++ rest) × WritesField field front × WritesFields fields rest
 
 -- A text is a spelling of a line.
 abbrev pub Spells : Line → List ℕ → Type 0

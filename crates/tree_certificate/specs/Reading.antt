@@ -1,5 +1,5 @@
--- What bytes read as: the document whose spelling they are, else the first refusal. A refusal is a fact about which documents begin
--- with the lines that came so far.
+-- What bytes read as: the document whose spelling they are, else the first refusal. A refusal is a fact about which
+-- documents begin with the lines that came so far.
 use Rattle.std.specs.Prelude.{◌≡◌, ◌≢◌, ◌+◌, ◌++◌, ◌⊎◌, ℕ, List, [], ◌∷◌, length, Result, Ok, Err}
 use Rattle.mgf_reader.specs.Text.{ended_lines, unfinished_line}
 use Rattle.tree_certificate.specs.declared.document.Document.{Document}

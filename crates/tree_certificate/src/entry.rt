@@ -14,8 +14,8 @@ pub enum Mark {
     Gap,
 }
 
-/// An edge of a tree: its number in the graph, the row of its parent from 1 or 0 for the root, the list of its head from 0, the
-/// head's formula, what the tail loses, and the weight.
+/// An edge of a tree: its number in the graph, the row of its parent from 1 or 0 for the root, the list of its head
+/// from 0, the head's formula, what the tail loses, and the weight.
 #[derive(Clone, Copy, Debug, PartialEq, Eq)]
 pub struct TreeRow {
     pub edge: u32,

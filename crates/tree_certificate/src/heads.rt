@@ -21,13 +21,13 @@ use mgf_reader::Title;
 use std::alloc::{AllocError, Global};
 
 /// The greatest line of a text, and the greatest number of vertices that is told.
-const GREATEST_LINE: u64 = 4_294_967_295;
+const GREATEST_LINE_NUMBER: u64 = 4_294_967_295;
 
 /// The greatest m/z, in units of 10^-7, and the greatest intensity, in units of 10^-6.
 const GREATEST_PEAK_NUMBER: u64 = 1_000_000_000_000_000_000;
 
 /// The greatest number of formulas in a list, and of entries in a section.
-const GREATEST_COUNT: u64 = 20_000;
+const GREATEST_LISTED: u64 = 20_000;
 
 /// The greatest number of lists of a section.
 const GREATEST_LISTS: u64 = 41;
@@ -117,9 +117,9 @@ fn is_section(head: &SectionHead) -> bool
     ensures small { IsTrue result → IsSmallSection head.now }
 {
     match head {
-        SectionHead::Spectrum(number, _) => is_within(*number, 0, GREATEST_LINE),
+        SectionHead::Spectrum(number, _) => is_within(*number, 0, GREATEST_LINE_NUMBER),
         SectionHead::Clean => true,
-        SectionHead::Refused(number, _) => is_within(*number, 0, GREATEST_LINE),
+        SectionHead::Refused(number, _) => is_within(*number, 0, GREATEST_LINE_NUMBER),
     }
 }
 
@@ -207,7 +207,7 @@ fn is_list(mz: u64, intensity: u64, count: u64) -> bool
 {
     is_within(mz, 0, GREATEST_PEAK_NUMBER)
         && is_within(intensity, 0, GREATEST_PEAK_NUMBER)
-        && is_within(count, 0, GREATEST_COUNT)
+        && is_within(count, 0, GREATEST_LISTED)
 }
 
 /// The line of a formula.
@@ -245,7 +245,7 @@ pub fn entries_head(bytes: &[u8]) -> Result<(u64, &[u8]), Stop<'_>>
 fn is_entries(count: u64) -> bool
     ensures { result ≡ spec.in_range (spec.entries_line count) }
 {
-    is_within(count, 0, GREATEST_COUNT)
+    is_within(count, 0, GREATEST_LISTED)
 }
 
 /// A line where an entry is needed.
@@ -295,7 +295,7 @@ fn is_entry(head: &EntryHead) -> bool
 {
     match head {
         EntryHead::TooLarge(_, error, vertices) => {
-            is_within(*error, 0, GREATEST_ERROR) && is_within(*vertices, 0, GREATEST_LINE)
+            is_within(*error, 0, GREATEST_ERROR) && is_within(*vertices, 0, GREATEST_LINE_NUMBER)
         }
         EntryHead::Tree(_, error, score, upper, _, count) => {
             is_within(*error, 0, GREATEST_ERROR)

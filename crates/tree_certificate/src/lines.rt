@@ -1,5 +1,5 @@
-//! The lines of a document, one function a form: from its bytes to what it holds. Their numbers are not yet compared with
-//! their ranges.
+//! The lines of a document, one function a form: from its bytes to what it holds. Their numbers are not yet compared
+//! with their ranges.
 ghost use Rattle.std.specs.Prelude.{◌≡◌, [], ◌∷◌, IfOk};
 ghost use Rattle.std.specs.Option.{option_map};
 ghost use Rattle.tree_certificate.specs.Line.{clean_line, done_line, entries_line, formula_line, header_line, list_line, lists_line, refused_line, spectrum_line, table_line, table_row_line, too_large_line, tree_line};

@@ -218,7 +218,8 @@ fn read_solved(
     lists: Vec<FormulaList>,
     bytes: &[u8],
 ) -> Result<(Solved, &[u8]), Stop<'_>>
-    ensures taken { Reads (need_entries ∷ []) (λ solved. entries_line (length solved.entries) ∷ flat_map entry_lines solved.entries) bytes.now result }
+    ensures taken { Reads (need_entries ∷ [])
+        (λ solved. entries_line (length solved.entries) ∷ flat_map entry_lines solved.entries) bytes.now result }
     ensures lists { IfOk result (λ both. both.0.lists ≡ lists.items) }
 {
     let (count, rest) = part!(entries_head(bytes));
@@ -235,7 +236,8 @@ fn read_section(
     title: Title,
     bytes: &[u8],
 ) -> Result<(Section, &[u8]), Stop<'_>>
-    ensures taken { Reads (need_body ∷ need_done ∷ []) (λ section. body_lines section.body ++ done_line ∷ []) bytes.now result }
+    ensures taken { Reads (need_body ∷ need_done ∷ []) (λ section. body_lines section.body ++ done_line ∷ [])
+        bytes.now result }
     ensures line { IfOk result (λ both. both.0.line ≡ line) }
     ensures title { IfOk result (λ both. both.0.title ≡ title) }
 {
@@ -246,7 +248,8 @@ fn read_section(
 
 /// The sections of a document and its ending.
 fn read_sections(alloc: Global, bytes: &[u8]) -> Result<(Document, &[u8]), Stop<'_>>
-    ensures { Reads (need_sections ∷ []) (λ document. flat_map section_lines document.sections ++ ending_line document.ending ∷ []) bytes.now result }
+    ensures { Reads (need_sections ∷ [])
+        (λ document. flat_map section_lines document.sections ++ ending_line document.ending ∷ []) bytes.now result }
 {
     let mut sections = Vec::new(alloc);
     let mut rest = bytes;

@@ -28,7 +28,8 @@ IsFoundSet row own gains step count (Some low) = IsLowSet row own gains step cou
 abbrev pub IsSetHigh : Graph → List (List ℤ) → ℕ → List Bool → Type 0
 IsSetHigh graph rows vertex set = IsHighEnough graph rows vertex set (number_of graph rows vertex (true ∷ set))
 
--- Of the numbers of a vertex for the sets of these sizes beside one smaller colour, by place: the first that is too low.
+-- Of the numbers of a vertex for the sets of these sizes beside one smaller colour, by place: the first that is too
+-- low.
 pub record IsLowOfSizes (graph : Graph) (rows : List (List ℤ)) (vertex from past : ℕ) (low : Low) : Type 0 where
   pub set : List Bool
   pub not_smaller : from ≤ length set

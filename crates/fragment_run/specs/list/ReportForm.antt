@@ -1,4 +1,5 @@
--- The report of a list: for each spectrum its lists of formulas, or why it was skipped, and an ending, as in a document.
+-- The report of a list: for each spectrum its lists of formulas, or why it was skipped, and an ending, as in a
+-- document.
 use Rattle.std.specs.Prelude.{◌++◌, ℕ, List, [], ◌∷◌, length, Option}
 use Rattle.std.specs.List.{flat_map}
 use Rattle.mgf_reader.specs.declared.fault.MgfFault.{MgfFault}

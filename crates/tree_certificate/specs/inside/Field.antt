@@ -26,7 +26,8 @@ capped number = min number greatest_read
 -- what stands between a space at the front and the next one, and the rest
 abbrev pub token_at : List ℕ → Option (List ℕ × List ℕ)
 token_at [] = None
-token_at (byte ∷ rest) = if is_space byte then Some (before_first is_space rest, drop (position_or_len is_space rest) rest) else None
+token_at (byte ∷ rest) =
+    if is_space byte then Some (before_first is_space rest, drop (position_or_len is_space rest) rest) else None
 
 -- the rest behind a first word
 abbrev pub behind_word : List ℕ → List ℕ → Option (List ℕ)
@@ -39,7 +40,9 @@ number_in token = if is_number token then Some (capped (digits_value 10 token)) 
 abbrev pub signed_in : List ℕ → Option ℤ
 signed_in [] = None
 signed_in (byte ∷ digits) =
-    if byte == 45 then (if is_number digits && not (digits_value 10 digits == 0) then Some (neg_ℤ (pos (capped (digits_value 10 digits)))) else None)
+    if byte == 45
+    then (if is_number digits && not (digits_value 10 digits == 0)
+    then Some (neg_ℤ (pos (capped (digits_value 10 digits)))) else None)
     else option_map (λ number. pos number) (number_in (byte ∷ digits))
 
 -- the counts of a formula that is spelled as it is printed
@@ -51,7 +54,8 @@ abbrev pub formula_in : List ℕ → Option (List ℕ)
 formula_in token = spelled_formula token (formula_of token)
 
 abbrev pub mark_in : List ℕ → Option Mark
-mark_in token = if bytes_eq token (codes "optimal") then Some Optimal else (if bytes_eq token (codes "gap") then Some Gap else None)
+mark_in token =
+    if bytes_eq token (codes "optimal") then Some Optimal else (if bytes_eq token (codes "gap") then Some Gap else None)
 
 abbrev pub kind_in : List ℕ → Option ℕ
 kind_in token = option_map kind_number (kind_of_text token)
@@ -118,7 +122,8 @@ value_in kind_kind token = kind_in token
 
 -- the value of a kind that stands at the front, and the rest
 abbrev pub value_at : (kind : Kind) → List ℕ → Option (Of kind × List ℕ)
-value_at kind text = option_and_then (λ parts. option_map (λ value. (value, parts.1)) (value_in kind parts.0)) (token_at text)
+value_at kind text =
+    option_and_then (λ parts. option_map (λ value. (value, parts.1)) (value_in kind parts.0)) (token_at text)
 
 -- the number of a hexadecimal digit, and some number of another byte
 abbrev pub nibble_of : ℕ → ℕ
@@ -134,18 +139,23 @@ title_byte_at text =
 
 -- the title that a spelling has, if it is one; and some title, if it is none
 abbrev pub title_of : List ℕ → List ℕ
-title_of (byte ∷ mark ∷ high ∷ low ∷ rest) = if byte == 92 then (nibble_of high * 16 + nibble_of low) ∷ title_of rest else byte ∷ title_of (mark ∷ high ∷ low ∷ rest)
+title_of (byte ∷ mark ∷ high ∷ low ∷ rest) =
+    if byte == 92 then (nibble_of high * 16 + nibble_of low) ∷ title_of rest else
+    byte ∷ title_of (mark ∷ high ∷ low ∷ rest)
 title_of (byte ∷ rest) = if byte == 92 then [] else byte ∷ title_of rest
 title_of [] = []
 
 abbrev pub title_at : List ℕ → Option (List ℕ)
 title_at [] = None
-title_at (byte ∷ rest) = if is_space byte && (are_bytes (title_of rest) && bytes_eq (escaped (title_of rest)) rest) then Some (title_of rest) else None
+title_at (byte ∷ rest) =
+    if is_space byte && (are_bytes (title_of rest) && bytes_eq (escaped (title_of rest)) rest)
+    then Some (title_of rest) else None
 
 -- the numbers of tokens
 abbrev pub numbers_in : List (List ℕ) → Option (List ℤ)
 numbers_in [] = Some []
-numbers_in (token ∷ tokens) = option_and_then (λ number. option_map (λ numbers. number ∷ numbers) (numbers_in tokens)) (signed_in token)
+numbers_in (token ∷ tokens) =
+    option_and_then (λ number. option_map (λ numbers. number ∷ numbers) (numbers_in tokens)) (signed_in token)
 
 -- the numbers to the end of a line, each behind a space
 abbrev pub numbers_at : List ℕ → Option (List ℤ)
@@ -163,7 +173,9 @@ tail_at (numbers_tail count most) text = some_numbers_at text
 -- the values of all fields behind the first word
 abbrev pub values_at : (kinds : List Kind) (tail : Tail) → List ℕ → Option (Values kinds tail)
 values_at [] tail text = tail_at tail text
-values_at (kind ∷ kinds) tail text = option_and_then (λ value. option_map (λ values. (value.0, values)) (values_at kinds tail value.1)) (value_at kind text)
+values_at (kind ∷ kinds) tail text =
+    option_and_then (λ value. option_map (λ values. (value.0, values)) (values_at kinds tail value.1))
+    (value_at kind text)
 
 -- the same of a whole line
 abbrev pub form_at : List ℕ → (kinds : List Kind) (tail : Tail) → List ℕ → Option (Values kinds tail)

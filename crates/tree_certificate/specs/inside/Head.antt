@@ -21,7 +21,15 @@ IsSmallSection Clean = Unit {0}
 IsSmallSection (Refused line kind) = line < 2 ^ 32
 
 abbrev pub row_fields_line : RowFields → Line
-row_fields_line it = row_line (record { edge = it.edge; parent = it.parent; peak = it.peak; formula = it.formula; loss = it.loss; weight = it.weight })
+row_fields_line it =
+    row_line (record {
+      edge = it.edge;
+      parent = it.parent;
+      peak = it.peak;
+      formula = it.formula;
+      loss = it.loss;
+      weight = it.weight;
+    })
 
 -- the numbers of a row fit their types
 pub record IsSmallRow (it : RowFields) : Type 0 where
@@ -41,4 +49,5 @@ entry_head_line (Tree candidate error score upper mark count) = tree_line candid
 -- a number of vertices that is told fits 32 bits, and a score 64
 abbrev pub IsSmallHead : EntryHead → Type 0
 IsSmallHead (TooLarge candidate error vertices) = vertices < 2 ^ 32
-IsSmallHead (Tree candidate error score upper mark count) = (unsigned_abs score ≤ 1000000000000000) × (unsigned_abs upper ≤ 1000000000000000)
+IsSmallHead (Tree candidate error score upper mark count) =
+    (unsigned_abs score ≤ 1000000000000000) × (unsigned_abs upper ≤ 1000000000000000)

@@ -3,7 +3,7 @@ use Rattle.std.specs.Prelude.{ℕ, List, [], ◌∷◌, ◌++◌, codes, replica
 use Rattle.std.specs.Option.{option_map}
 use Rattle.tree_certificate.specs.declared.document.Skip.TheVariants.{NoPrecursor, Charge, Range, TooMany}
 use Rattle.tree_certificate.specs.Number.{greatest_number}
-use Rattle.tree_certificate.specs.Line.{Line, header_line, clean_line, refused_line, spectrum_line, skip_line, lists_line, list_line, formula_line, entries_line, too_large_line, tree_line, row_line, table_line, table_row_line, done_line, greatest_line, greatest_peak_number, greatest_vertices}
+use Rattle.tree_certificate.specs.Line.{Line, header_line, clean_line, refused_line, spectrum_line, skip_line, lists_line, list_line, formula_line, entries_line, too_large_line, tree_line, row_line, table_line, table_row_line, done_line, greatest_line_number, greatest_peak_number, greatest_rows}
 use Rattle.tree_certificate.specs.inside.Field.{Kind, word_kind, number_kind, signed_kind, formula_kind, mark_kind, kind_kind, Tail, no_tail, title_tail, numbers_tail, Values, form_at}
 
 pub data Need : Type 0 where
@@ -46,60 +46,150 @@ pub record Shape : Type 0 where
   pub make : Values kinds tail → Line
 
 abbrev pub header_shape : Shape
-header_shape = record { word = codes "fragdoc"; kinds = word_kind (codes "1") ∷ []; tail = no_tail; make = λ values. header_line }
+header_shape = record {
+  word = codes "fragdoc";
+  kinds = word_kind (codes "1") ∷ [];
+  tail = no_tail;
+  make = λ values. header_line;
+}
 
 abbrev pub clean_shape : Shape
-clean_shape = record { word = codes "end"; kinds = word_kind (codes "clean") ∷ []; tail = no_tail; make = λ values. clean_line }
+clean_shape = record {
+  word = codes "end";
+  kinds = word_kind (codes "clean") ∷ [];
+  tail = no_tail;
+  make = λ values. clean_line;
+}
 
 abbrev pub refused_shape : Shape
-refused_shape = record { word = codes "end"; kinds = word_kind (codes "refused") ∷ number_kind 0 greatest_line ∷ kind_kind ∷ []; tail = no_tail; make = λ values. refused_line values.1.0 values.1.1.0 }
+refused_shape = record {
+  word = codes "end";
+  kinds = word_kind (codes "refused") ∷ number_kind 0 greatest_line_number ∷ kind_kind ∷ [];
+  tail = no_tail;
+  make = λ values. refused_line values.1.0 values.1.1.0;
+}
 
 abbrev pub spectrum_shape : Shape
-spectrum_shape = record { word = codes "spectrum"; kinds = number_kind 0 greatest_line ∷ []; tail = title_tail; make = λ values. spectrum_line values.0 values.1 }
+spectrum_shape = record {
+  word = codes "spectrum";
+  kinds = number_kind 0 greatest_line_number ∷ [];
+  tail = title_tail;
+  make = λ values. spectrum_line values.0 values.1;
+}
 
 abbrev pub no_precursor_shape : Shape
-no_precursor_shape = record { word = codes "skip"; kinds = word_kind (codes "no-precursor") ∷ []; tail = no_tail; make = λ values. skip_line NoPrecursor }
+no_precursor_shape = record {
+  word = codes "skip";
+  kinds = word_kind (codes "no-precursor") ∷ [];
+  tail = no_tail;
+  make = λ values. skip_line NoPrecursor;
+}
 
 abbrev pub charge_shape : Shape
-charge_shape = record { word = codes "skip"; kinds = word_kind (codes "charge") ∷ []; tail = no_tail; make = λ values. skip_line Charge }
+charge_shape = record {
+  word = codes "skip";
+  kinds = word_kind (codes "charge") ∷ [];
+  tail = no_tail;
+  make = λ values. skip_line Charge;
+}
 
 abbrev pub range_shape : Shape
-range_shape = record { word = codes "skip"; kinds = word_kind (codes "range") ∷ number_kind 0 greatest_peak_number ∷ []; tail = no_tail; make = λ values. skip_line (Range values.1.0) }
+range_shape = record {
+  word = codes "skip";
+  kinds = word_kind (codes "range") ∷ number_kind 0 greatest_peak_number ∷ [];
+  tail = no_tail;
+  make = λ values. skip_line (Range values.1.0);
+}
 
 abbrev pub too_many_shape : Shape
-too_many_shape = record { word = codes "skip"; kinds = word_kind (codes "too-many") ∷ number_kind 0 greatest_peak_number ∷ []; tail = no_tail; make = λ values. skip_line (TooMany values.1.0) }
+too_many_shape = record {
+  word = codes "skip";
+  kinds = word_kind (codes "too-many") ∷ number_kind 0 greatest_peak_number ∷ [];
+  tail = no_tail;
+  make = λ values. skip_line (TooMany values.1.0);
+}
 
 abbrev pub lists_shape : Shape
-lists_shape = record { word = codes "lists"; kinds = number_kind 1 41 ∷ []; tail = no_tail; make = λ values. lists_line values.0 }
+lists_shape = record {
+  word = codes "lists";
+  kinds = number_kind 1 41 ∷ [];
+  tail = no_tail;
+  make = λ values. lists_line values.0;
+}
 
 abbrev pub list_shape : Shape
-list_shape = record { word = codes "list"; kinds = number_kind 0 greatest_peak_number ∷ number_kind 0 greatest_peak_number ∷ number_kind 0 20000 ∷ []; tail = no_tail; make = λ values. list_line values.0 values.1.0 values.1.1.0 }
+list_shape = record {
+  word = codes "list";
+  kinds = number_kind 0 greatest_peak_number ∷ number_kind 0 greatest_peak_number ∷ number_kind 0 20000 ∷ [];
+  tail = no_tail;
+  make = λ values. list_line values.0 values.1.0 values.1.1.0;
+}
 
 abbrev pub formula_shape : Shape
-formula_shape = record { word = codes "f"; kinds = formula_kind ∷ []; tail = no_tail; make = λ values. formula_line values.0 }
+formula_shape = record {
+  word = codes "f";
+  kinds = formula_kind ∷ [];
+  tail = no_tail;
+  make = λ values. formula_line values.0;
+}
 
 abbrev pub entries_shape : Shape
-entries_shape = record { word = codes "entries"; kinds = number_kind 0 20000 ∷ []; tail = no_tail; make = λ values. entries_line values.0 }
+entries_shape = record {
+  word = codes "entries";
+  kinds = number_kind 0 20000 ∷ [];
+  tail = no_tail;
+  make = λ values. entries_line values.0;
+}
 
 abbrev pub too_large_shape : Shape
-too_large_shape = record { word = codes "entry"; kinds = formula_kind ∷ number_kind 0 2000000 ∷ word_kind (codes "too-large") ∷ number_kind 0 greatest_line ∷ []; tail = no_tail; make = λ values. too_large_line values.0 values.1.0 values.1.1.1.0 }
+too_large_shape = record {
+  word = codes "entry";
+  kinds = formula_kind ∷ number_kind 0 2000000 ∷ word_kind (codes "too-large") ∷ number_kind 0 greatest_line_number
+      ∷ [];
+  tail = no_tail;
+  make = λ values. too_large_line values.0 values.1.0 values.1.1.1.0;
+}
 
 abbrev pub tree_shape : Shape
-tree_shape = record { word = codes "entry"; kinds = formula_kind ∷ number_kind 0 2000000 ∷ signed_kind greatest_number ∷ signed_kind greatest_number ∷ mark_kind ∷ number_kind 0 greatest_vertices ∷ []; tail = no_tail; make = λ values. tree_line values.0 values.1.0 values.1.1.0 values.1.1.1.0 values.1.1.1.1.0 values.1.1.1.1.1.0 }
+tree_shape = record {
+  word = codes "entry";
+  kinds = formula_kind ∷ number_kind 0 2000000 ∷ signed_kind greatest_number ∷ signed_kind greatest_number ∷ mark_kind
+      ∷ number_kind 0 greatest_rows ∷ [];
+  tail = no_tail;
+  make = λ values. tree_line values.0 values.1.0 values.1.1.0 values.1.1.1.0 values.1.1.1.1.0 values.1.1.1.1.1.0;
+}
 
 abbrev pub row_shape : Shape
 row_shape = record {
   word = codes "r";
-  kinds = number_kind 0 131071 ∷ number_kind 0 greatest_vertices ∷ number_kind 0 greatest_vertices ∷ formula_kind ∷ formula_kind ∷ signed_kind 100000 ∷ [];
+  kinds = number_kind 0 131071 ∷ number_kind 0 greatest_rows ∷ number_kind 0 greatest_rows ∷ formula_kind
+      ∷ formula_kind ∷ signed_kind 100000 ∷ [];
   tail = no_tail;
-  make = λ values. row_line (record { edge = values.0; parent = values.1.0; peak = values.1.1.0; formula = values.1.1.1.0; loss = values.1.1.1.1.0; weight = values.1.1.1.1.1.0 });
+  make = λ values. row_line (record {
+    edge = values.0;
+    parent = values.1.0;
+    peak = values.1.1.0;
+    formula = values.1.1.1.0;
+    loss = values.1.1.1.1.0;
+    weight = values.1.1.1.1.1.0;
+  });
 }
 
 abbrev pub table_shape : Shape
-table_shape = record { word = codes "table"; kinds = number_kind 0 greatest_vertices ∷ []; tail = no_tail; make = λ values. table_line values.0 }
+table_shape = record {
+  word = codes "table";
+  kinds = number_kind 0 greatest_rows ∷ [];
+  tail = no_tail;
+  make = λ values. table_line values.0;
+}
 
 abbrev pub table_row_shape : Shape
-table_row_shape = record { word = codes "t"; kinds = []; tail = numbers_tail 4096 greatest_number; make = λ values. table_row_line values }
+table_row_shape = record {
+  word = codes "t";
+  kinds = [];
+  tail = numbers_tail 4096 greatest_number;
+  make = λ values. table_row_line values;
+}
 
 abbrev pub done_shape : Shape
 done_shape = record { word = codes "done"; kinds = []; tail = no_tail; make = λ values. done_line }

@@ -17,7 +17,8 @@ StopsAs needs bytes OutOfMemory = Unit {0}
 
 -- one line is taken
 abbrev pub Takes : {X : Type 0} → Need → (X → Line) → List ℕ → Result (X × Bor (List ℕ)) Stop → Type 0
-Takes need line bytes (Ok both) = Took (need ∷ []) (next_needs (follow need (line both.0))) (line both.0 ∷ []) bytes both.1.now
+Takes need line bytes (Ok both) =
+    Took (need ∷ []) (next_needs (follow need (line both.0))) (line both.0 ∷ []) bytes both.1.now
 Takes need line bytes (Err stop) = StopsAs (need ∷ []) bytes stop
 
 -- all lines for some needs are taken

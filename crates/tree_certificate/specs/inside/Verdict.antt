@@ -5,8 +5,8 @@ use Rattle.tree_certificate.specs.Document.{AreGoodLines, text_of}
 use Rattle.tree_certificate.specs.Line.{Line, in_range}
 use Rattle.tree_certificate.specs.inside.Need.{Need, follow, line_at}
 
--- why the lines are not taken to the end: no line may stand there, or a number is past its range, with the texts from there on; or
--- something is still needed
+-- why the lines are not taken to the end: no line may stand there, or a number is past its range, with the texts from
+-- there on; or something is still needed
 pub data Stop : Type 0 where
   at_bad : List (List ℕ) → Stop
   at_big : List (List ℕ) → Stop
@@ -26,14 +26,16 @@ unfoldable pub verdict : List Need → List (List ℕ) → Option Stop
 verdict [] [] = None
 verdict [] (text ∷ texts) = Some (at_bad (text ∷ texts))
 verdict (need ∷ needs) [] = Some at_end
-verdict (need ∷ needs) (text ∷ texts) = judged (text ∷ texts) (line_at need text) (λ line. verdict (next_needs (follow need line) ++ needs) texts)
+verdict (need ∷ needs) (text ∷ texts) =
+    judged (text ∷ texts) (line_at need text) (λ line. verdict (next_needs (follow need line) ++ needs) texts)
 
 -- Bytes begin with the spelling of some good lines, which leave some needs of others, and a rest.
 pub record Took (needs left : List Need) (lines : List Line) (bytes rest : List ℕ) : Type 0 where
   pub spelled : bytes ≡ text_of lines ++ rest
   pub good : AreGoodLines lines
   pub unfinished : unfinished_line bytes ≡ unfinished_line rest
-  pub same : (others : List Need) → verdict (needs ++ others) (ended_lines bytes) ≡ verdict (left ++ others) (ended_lines rest)
+  pub same : (others : List Need)
+      → verdict (needs ++ others) (ended_lines bytes) ≡ verdict (left ++ others) (ended_lines rest)
 
 -- the same needs cannot be met by these bytes, whatever is needed behind them
 abbrev pub Stops : List Need → List ℕ → Stop → Type 0
