@@ -1,8 +1,10 @@
 //! Worked examples of best trees, and small graphs compared with all lists of edges.
+ghost use Rattle.std.specs.Prelude.{◌≡◌, ◌≤◌, ◌<◌, ◌+◌, pos, [], ◌∷◌, IfOk, length};
+ghost use Rattle.colour_graph.specs.Building.{ComesNext};
 ghost use Rattle.colour_graph.specs.Graph.{IsScore};
 
 use crate::solve_small;
-use colour_graph::{ColourGraph, EdgeId, GraphBuilder};
+use colour_graph::{Colour, ColourGraph, EdgeId, GraphBuilder, VertexId};
 use std::alloc::{AllocError, Global};
 use std::process::Abort;
 use std::test::Fail;
@@ -122,68 +124,114 @@ fn weight_of(sample: u64) -> i32
     }
 }
 
-/// A graph of three colours with two, two and one vertices, and all edges between vertices of different colours.
-fn sample_graph(alloc: Global, seed: u64) -> Result<ColourGraph, AllocError> {
+/// Adds to a builder of the root alone so many vertices of each of so many colours, and tells the colours of all.
+fn add_vertices(
+    alloc: Global,
+    builder: &mut GraphBuilder,
+    count: u16,
+    per_colour: u16,
+    rt: &impl Abort,
+) -> Result<Vec<Colour>, AllocError>
+    requires root { builder.old.colours ≡ 0 ∷ [] }
+    requires no_edge { builder.old.edges ≡ [] }
+    ensures colours { IfOk result (λ colours. builder.new.colours ≡ colours.items) }
+    ensures no_edge { IfOk result (λ _. builder.new.edges ≡ []) }
+{
+    let mut colours = Vec::new(alloc);
+    colours.push(0)?;
+    for colour in 1..=count {
+        for _number in 0..per_colour {
+            let last = colours[colours.len() - 1];
+            assert!(rt; colours.len() < 4096);
+            assert!(rt; colour > 0);
+            assert!(rt; last <= colour);
+            assert!(rt; colour - last <= 1);
+            builder.vertex(colour)?;
+            colours.push(colour)?;
+        }
+    }
+    Ok(colours)
+}
+
+/// Adds the edges into a head that sixteenths of the pairs lack, with sampled weights, and tells the next sample.
+fn add_edges_to(
+    builder: &mut GraphBuilder,
+    colours: &[Colour],
+    head: usize,
+    gaps: u64,
+    seed: u64,
+) -> Result<u64, AllocError>
+    requires colours { builder.old.colours ≡ colours.now }
+    requires few { length colours.now ≤ 4096 }
+    requires head { head < length colours.now }
+    requires next { ComesNext builder.old (record { tail = 0; head = head; weight = pos 0 }) }
+    ensures colours { IfOk result (λ _. builder.new.colours ≡ colours.now) }
+    ensures next { IfOk result (λ _.
+        ComesNext builder.new (record { tail = 0; head = head + 1; weight = pos 0 })) }
+{
+    let mut sample = seed;
+    for tail in 0..head {
+        sample = next_sample(sample);
+        if colours[tail] < colours[head] && (sample >> 50) % 16 >= gaps {
+            builder.edge(tail as VertexId, head as VertexId, weight_of(sample))?;
+        }
+    }
+    Ok(sample)
+}
+
+/// A graph of so many colours with so many vertices each, and edges with sampled weights between vertices of different
+/// colours: between all but `gaps` in sixteen pairs.
+fn sample_graph(
+    alloc: Global,
+    count: u16,
+    per_colour: u16,
+    gaps: u64,
+    seed: u64,
+    rt: &impl Abort,
+) -> Result<ColourGraph, AllocError> {
     let mut builder = GraphBuilder::new(alloc, 1)?;
-    builder.vertex(1)?;
-    builder.vertex(1)?;
-    builder.vertex(2)?;
-    builder.vertex(2)?;
-    builder.vertex(3)?;
-    let first = next_sample(seed);
-    builder.edge(0, 1, weight_of(first))?;
-    let second = next_sample(first);
-    builder.edge(0, 2, weight_of(second))?;
-    let third = next_sample(second);
-    builder.edge(0, 3, weight_of(third))?;
-    let fourth = next_sample(third);
-    builder.edge(1, 3, weight_of(fourth))?;
-    let fifth = next_sample(fourth);
-    builder.edge(2, 3, weight_of(fifth))?;
-    let sixth = next_sample(fifth);
-    builder.edge(0, 4, weight_of(sixth))?;
-    let seventh = next_sample(sixth);
-    builder.edge(1, 4, weight_of(seventh))?;
-    let eighth = next_sample(seventh);
-    builder.edge(2, 4, weight_of(eighth))?;
-    let ninth = next_sample(eighth);
-    builder.edge(0, 5, weight_of(ninth))?;
-    builder.edge(1, 5, weight_of(next_sample(ninth ^ 1)))?;
-    builder.edge(2, 5, weight_of(next_sample(ninth ^ 2)))?;
-    builder.edge(3, 5, weight_of(next_sample(ninth ^ 3)))?;
-    builder.edge(4, 5, weight_of(next_sample(ninth ^ 4)))?;
+    let colours = add_vertices(alloc, &mut builder, count, per_colour, rt)?;
+    assert!(rt; colours.len() <= 4096);
+    let mut sample = seed;
+    for head in 0..colours.len() {
+        sample = add_edges_to(&mut builder, &colours, head, gaps, sample)?;
+    }
     Ok(builder.finish())
 }
 
-/// The best score of a sample graph over all lists with at most one edge into each colour: edges 0 and 1 go to the
-/// first colour, 2 to 7 to the second, 8 to 12 to the third.
-fn best_score(graph: &ColourGraph) -> i64 {
+/// The best score of a graph of three colours over all lists with at most one edge into each of them.
+fn best_score(graph: &ColourGraph, rt: &impl Abort) -> i64 {
+    assert!(rt; graph.colour_count() == 3);
+    let (first_into, first_past) = graph.edges_into(1);
+    let (second_into, second_past) = graph.edges_into(2);
+    let (third_into, third_past) = graph.edges_into(3);
+    let pasts = [first_past, second_past, third_past];
     let mut best = i64::from(graph.root_score());
-    for first in 0..3 {
-        for second in 2..9 {
-            for third in 8..14 {
-                best = best.max(score_or(graph, first, second, third, best));
+    for first in first_into..=first_past {
+        for second in second_into..=second_past {
+            for third in third_into..=third_past {
+                best = best.max(score_or(graph, [first, second, third], pasts, best));
             }
         }
     }
     best
 }
 
-/// The score of a list of up to three edges, without the first at 2, the second at 8, the third at 13, if it is
+/// The score of a list of up to three edges, without each that is not below the number at its place, if it is
 /// colourful; else another number.
-fn score_or(graph: &ColourGraph, first: EdgeId, second: EdgeId, third: EdgeId, other: i64) -> i64 {
+fn score_or(graph: &ColourGraph, picks: [EdgeId; 3], pasts: [EdgeId; 3], other: i64) -> i64 {
     let mut list = [0; 3];
     let mut count = 0;
-    if first < 2 {
-        list[count] = first;
+    if picks[0] < pasts[0] {
+        list[count] = picks[0];
         count += 1;
     }
-    if second < 8 {
-        list[count] = second;
+    if picks[1] < pasts[1] {
+        list[count] = picks[1];
         count += 1;
     }
-    if third < 13 {
-        list[count] = third;
+    if picks[2] < pasts[2] {
+        list[count] = picks[2];
         count += 1;
     }
     let edges = &list[..count];
@@ -197,13 +245,17 @@ fn score_or(graph: &ColourGraph, first: EdgeId, second: EdgeId, third: EdgeId, o
 #[test]
 fn no_list_of_edges_scores_more(rt: HostRuntime) -> Result<(), Fail> {
     let mut seed = 1;
-    for _ in 0..300 {
+    for round in 0..200 {
         seed = next_sample(seed);
-        let graph = sample_graph(rt.alloc(), seed)?;
+        let graph = sample_graph(rt.alloc(), 3, 4, round % 2 * 8, seed, &rt)?;
         let (edges, _cert) = solved(rt.alloc(), &graph, &rt)?;
         assert!(rt; graph.is_colourful(&edges));
         assert!(rt; edges.len() <= 12);
-        assert_eq!(rt; graph.tree_score(&edges), best_score(&graph), "seed {seed}");
+        assert_eq!(rt;
+            graph.tree_score(&edges),
+            best_score(&graph, &rt),
+            "seed {seed}"
+        );
     }
     Ok(())
 }
