@@ -39,6 +39,23 @@ struct Slots<F> {
     faults: Faults,
 }
 
+/// A file that is there on every Linux system and has no bytes.
+const NO_BYTES: &str = "/dev/null";
+
+/// Files that are kept open, and nothing else.
+#[derive(Drop)]
+struct Held<F>(F, F, F);
+
+/// Takes as many descriptors as there are standard streams. Where one of these is closed, the system gives its descriptor
+/// to the next file that is opened, and what is meant for the stream would land in that file.
+fn take_descriptors<R: Files>(rt: &R) -> io::Result<Held<R::File>> {
+    Ok(Held(
+        fs::open(rt, NO_BYTES)?,
+        fs::open(rt, NO_BYTES)?,
+        fs::open(rt, NO_BYTES)?,
+    ))
+}
+
 /// Reads an open file.
 fn read_from<F: Read>(file: &mut Option<F>, buffer: &mut [u8]) -> io::Result<usize>
     requires { IsSome file.old }
@@ -78,11 +95,13 @@ fn end<F: Write + Drop>(outlet: &mut Outlet<F>) -> io::Result<()>
 }
 
 /// A desk over real files and the standard output. It tells no bytes. Read slots are opened only to read; the
-/// document's file is created, or emptied, as it begins; the report goes to the standard output.
+/// document's file is created, or emptied, as it begins, and never takes the descriptor of a standard stream; the report
+/// goes to the standard output.
 #[derive(Drop)]
 pub struct RealDesk<'a, R: Files + Print> {
     rt: &'a R,
     slots: Slots<R::File>,
+    held: Option<Held<R::File>>,
 }
 
 impl<'a, R: Files + Print> RealDesk<'a, R> {
@@ -102,6 +121,7 @@ impl<'a, R: Files + Print> RealDesk<'a, R> {
                 cert_out: Outlet::Fresh,
                 faults: Faults::none(),
             },
+            held: None,
         }
     }
 
@@ -135,7 +155,10 @@ impl<'a, R: Files + Print> RealDesk<'a, R> {
             Slot::Profile => self.slots.profile = Some(fs::open(self.rt, name)?),
             Slot::CertIn => self.slots.cert_in = Some(fs::open(self.rt, name)?),
             Slot::Report => self.slots.report = Outlet::Open(()),
-            Slot::CertOut => self.slots.cert_out = Outlet::Open(fs::create(self.rt, name)?),
+            Slot::CertOut => {
+                self.held = Some(take_descriptors(self.rt)?);
+                self.slots.cert_out = Outlet::Open(fs::create(self.rt, name)?);
+            }
         }
         Ok(())
     }

@@ -8,8 +8,16 @@ pub mod Causes
 pub mod Steps
 pub mod ProfilePromise
 pub mod Leaves
+pub mod TextPromise
 pub mod RunSettings
 pub mod Outline
+pub mod Outlined
+pub mod OneEach
 pub mod Ending
+pub mod SolveSettings
+pub mod Candidates
+pub mod RightSection
+pub mod RightDocument
 pub mod list
+pub mod solve
 pub mod inside

@@ -1,8 +1,8 @@
 -- The commands: what words order, under which options, and in which order a command begins its slots.
-use Rattle.std.specs.Prelude.{ℕ, List, [], ◌∷◌, ◌++◌, codes, Option, None, if◌then◌else◌, unwrap_or}
+use Rattle.std.specs.Prelude.{ℕ, List, [], ◌∷◌, ◌++◌, codes, Option, Some, None, Bool, true, not, ◌&&◌, if◌then◌else◌, unwrap_or}
 use Rattle.std.specs.Option.{option_map, option_and_then}
 use Rattle.std.specs.Str.{bytes_eq}
-use Rattle.frag_io.specs.declared.desk.Slot.TheVariants.{Spectra, Report}
+use Rattle.frag_io.specs.declared.desk.Slot.TheVariants.{Spectra, Report, CertOut}
 use Rattle.adducts.specs.Adduct.{AdductValue}
 use Rattle.adducts.specs.Table.{adduct_named}
 use Rattle.fragment_run.specs.Begins.{Begin, profile_begin}
@@ -14,9 +14,17 @@ pub record ListNames : Type 0 where
   pub profile : Option (List ℕ)
   pub adduct : AdductValue
 
+-- what a solving is asked for: the name of its document beside these
+pub record SolveNames : Type 0 where
+  pub spectra : List ℕ
+  pub document : List ℕ
+  pub profile : Option (List ℕ)
+  pub adduct : AdductValue
+
 -- what a run is asked to do
 pub data Order : Type 0 where
   list : ListNames → Order
+  solve : SolveNames → Order
 
 -- the adduct of the table that is named, or `[M+H]+` where none is
 abbrev pub adduct_by : Option (List ℕ) → Option AdductValue
@@ -27,29 +35,72 @@ list_options =
     record { name = codes "--in"; need = required } ∷ record { name = codes "--profile"; need = optional }
     ∷ record { name = codes "--adduct"; need = optional } ∷ []
 
--- the order of a list by its options
-abbrev pub list_order_of : List Given → Option Order
-list_order_of options =
+-- what options name that each command on a text has, where they name it
+abbrev pub text_names_of : List Given → Option ListNames
+text_names_of options =
     option_and_then (λ spectra.
-    option_map
-    (λ adduct. list (record { spectra = spectra; profile = value_in (codes "--profile") options; adduct = adduct }))
+    option_map (λ adduct. record { spectra = spectra; profile = value_in (codes "--profile") options; adduct = adduct })
     (adduct_by (value_in (codes "--adduct") options)))
     (value_in (codes "--in") options)
+
+-- the order of a list by its options
+abbrev pub list_order_of : List Given → Option Order
+list_order_of options = option_map (λ names. list names) (text_names_of options)
+
+abbrev pub solve_options : List OptionRow
+solve_options = record { name = codes "--cert"; need = required } ∷ list_options
+
+-- a name is another than that of a slot that may have one
+abbrev pub is_other_than : List ℕ → Option (List ℕ) → Bool
+is_other_than name None = true
+is_other_than name (Some other) = not (bytes_eq name other)
+
+-- a document is never named as the text or the profile is
+abbrev pub has_own_document : SolveNames → Bool
+has_own_document names =
+    not (bytes_eq names.document names.spectra) && is_other_than names.document names.profile
+
+-- the order of a solving, where it is one
+abbrev pub solve_order : SolveNames → Option Order
+solve_order names = if has_own_document names then Some (solve names) else None
+
+-- what a solving is asked for by the name of its document and what a list would be asked for
+abbrev pub with_document : List ℕ → ListNames → SolveNames
+with_document document names =
+    record { spectra = names.spectra; document = document; profile = names.profile; adduct = names.adduct }
+
+-- the order of a solving by its options
+abbrev pub solve_order_of : List Given → Option Order
+solve_order_of options =
+    option_and_then (λ names.
+    option_and_then (λ document. solve_order (with_document document names)) (value_in (codes "--cert") options))
+    (text_names_of options)
 
 -- The first word is the command, and the later ones give its options. All other words are no order.
 abbrev pub order_of : List (List ℕ) → Option Order
 order_of [] = None
 order_of (command ∷ words) =
-    if bytes_eq command (codes "list") then option_and_then list_order_of (form_of list_options words) else None
+    if bytes_eq command (codes "list") then option_and_then list_order_of (form_of list_options words) else
+    if bytes_eq command (codes "solve") then option_and_then solve_order_of (form_of solve_options words) else None
 
 -- the name of the profile of an order, where it has one
 abbrev pub profile_named : Order → Option (List ℕ)
 profile_named (list names) = names.profile
+profile_named (solve names) = names.profile
 
--- the begins of a command that reports on a text; the report has no name
-abbrev pub text_begins : List ℕ → List Begin
-text_begins name = record { slot = Spectra; name = name } ∷ record { slot = Report; name = [] } ∷ []
+-- the begin of a document, where one is named
+abbrev pub document_begin : Option (List ℕ) → List Begin
+document_begin None = []
+document_begin (Some name) = record { slot = CertOut; name = name } ∷ []
+
+-- the begins of a command that reports on a text, and writes a document about it where one is named; the report has no
+-- name
+abbrev pub text_begins : List ℕ → Option (List ℕ) → List Begin
+text_begins name document =
+    record { slot = Spectra; name = name }
+    ∷ (document_begin document ++ record { slot = Report; name = [] } ∷ [])
 
 -- the order in which a command begins its slots
 abbrev pub begins_of : Order → List Begin
-begins_of (list names) = profile_begin names.profile ++ text_begins names.spectra
+begins_of (list names) = profile_begin names.profile ++ text_begins names.spectra None
+begins_of (solve names) = profile_begin names.profile ++ text_begins names.spectra (Some names.document)

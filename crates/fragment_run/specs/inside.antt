@@ -2,7 +2,8 @@
 pub mod Words
 pub mod NamesOf
 pub mod Running
-pub mod ListSteps
+pub mod TextSteps
 pub mod ProfileTaken
 pub mod Outlines
 pub mod SettingsOf
+pub mod Made

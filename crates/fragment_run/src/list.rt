@@ -1,23 +1,23 @@
 //! The command `list`: reads a text of spectra and reports for each the formulas of its precursor and its selected
 //! peaks.
-ghost use Rattle.std.specs.Prelude.{◌≡◌, ◌≢◌, ◌≤◌, ◌++◌, List, ℕ, false, length, take, IfSome, IfOk, IfErr, OnOk, OnErr};
+ghost use Rattle.std.specs.Prelude.{◌≡◌, ◌≢◌, ◌++◌, List, ℕ, None, false, take, IfSome, IfErr, OnOk, OnErr};
 ghost use Rattle.frag_io.specs.declared.desk.Slot.{Slot};
-ghost use Rattle.frag_io.specs.declared.desk.Slot.TheVariants.{Spectra, Report};
+ghost use Rattle.frag_io.specs.declared.desk.Slot.TheVariants.{Report};
 ghost use Rattle.frag_io.specs.DeskState.{DeskState};
 ghost use Rattle.frag_io.specs.Desk.{appended};
-ghost use Rattle.frag_io.specs.Slot.{Same};
 ghost use Rattle.fragment_run.specs.Begins.{Begin};
 ghost use Rattle.fragment_run.specs.Causes.{IsUnwritten};
 ghost use Rattle.fragment_run.specs.Class.{class_of, ended, IsOfProfile};
-ghost use Rattle.fragment_run.specs.Limits.{AreReadWhole, greatest_text_of};
+ghost use Rattle.fragment_run.specs.Limits.{AreReadWhole};
 ghost use Rattle.fragment_run.specs.Orders.{begins_of, list, text_begins};
 ghost use Rattle.fragment_run.specs.ProfilePromise.{OnlyProfile, ProfilePromise};
 ghost use Rattle.fragment_run.specs.RunSettings.{run_settings_of};
-ghost use Rattle.fragment_run.specs.inside.ListSteps.{IsTextStop, OnlyListed};
+ghost use Rattle.fragment_run.specs.TextPromise.{OwesText};
 ghost use Rattle.fragment_run.specs.inside.NamesOf.{names_of};
-ghost use Rattle.fragment_run.specs.inside.Running.{Ends, IsUnfinished, IsWriteAnswer, Runs, status_of};
+ghost use Rattle.fragment_run.specs.inside.Running.{Ends, IsUnfinished, Runs, status_of};
 ghost use Rattle.fragment_run.specs.inside.SettingsOf.{settings_value_of};
-ghost use Rattle.fragment_run.specs.list.ListPromise.{ListPromise, ListsText};
+ghost use Rattle.fragment_run.specs.inside.TextSteps.{HasOutputs, IsWriteStop};
+ghost use Rattle.fragment_run.specs.list.ListPromise.{ListPromise, list_meaning};
 
 mod report;
 mod section;
@@ -27,7 +27,8 @@ use crate::orders::ListNames;
 use crate::profile_text::take_profile;
 use crate::settings::{RunSettings, choice_of, fragment_rules_of};
 use crate::status::Status;
-use crate::steps::{begin_slot, finish_slot, read_text, write_slot};
+use crate::steps::{finish_slot, write_slot};
+use crate::text_steps::read_spectra;
 use adducts::Adduct;
 use element_table::Formula;
 use frag_io::{Desk, Slot};
@@ -66,9 +67,9 @@ fn list_under<D: Desk>(
     requires unwritten { IsUnwritten (D.state desk.old) }
     ensures ends { (done : List Begin) (before : DeskState) → Runs done before (D.state desk.old)
         → AreReadWhole done before (D.state desk.old)
-        → Ends (done ++ text_begins name.now) before (D.state desk.new) (status_of result) }
+        → Ends (done ++ text_begins name.now None) before (D.state desk.new) (status_of result) }
     ensures text { IfSome ((D.state desk.old).gives name.now) (λ text.
-        ListsText (run_settings_of profile.now adduct) text (D.state desk.new) (status_of result)) }
+        OwesText (list_meaning (run_settings_of profile.now adduct) text) text (D.state desk.new) (status_of result)) }
     ensures own { IsOfProfile (class_of (status_of result)) → ⊥ }
     ensures an_order { status_of result ≢ Status.Words }
 {
@@ -85,7 +86,7 @@ fn list_under<D: Desk>(
     list_steps(alloc, name, &settings, desk)
 }
 
-/// Begins both slots, reads the text, and writes and finishes the report.
+/// Begins both slots, reads the text, makes the report whole, and writes and finishes it.
 fn list_steps<D: Desk>(
     alloc: Global,
     name: &str,
@@ -97,13 +98,13 @@ fn list_steps<D: Desk>(
     requires unwritten { IsUnwritten (D.state desk.old) }
     ensures ends { (done : List Begin) (before : DeskState) → Runs done before (D.state desk.old)
         → AreReadWhole done before (D.state desk.old)
-        → Ends (done ++ text_begins name.now) before (D.state desk.new) (status_of result) }
+        → Ends (done ++ text_begins name.now None) before (D.state desk.new) (status_of result) }
     ensures text { IfSome ((D.state desk.old).gives name.now) (λ text.
-        ListsText (settings_value_of settings.now) text (D.state desk.new) (status_of result)) }
+        OwesText (list_meaning (settings_value_of settings.now) text) text (D.state desk.new) (status_of result)) }
     ensures own { IsOfProfile (class_of (status_of result)) → ⊥ }
     ensures an_order { status_of result ≢ Status.Words }
 {
-    let text = read_spectra(alloc, name, desk)?;
+    let text = read_spectra(alloc, name, None, desk)?;
     let (report, fault) = report_of(alloc, &text, settings)?;
     write_report(alloc, desk, &report)?;
     match fault {
@@ -112,38 +113,15 @@ fn list_steps<D: Desk>(
     }
 }
 
-/// Begins the text and the report, and reads the text.
-fn read_spectra<D: Desk>(alloc: Global, name: &str, desk: &mut D) -> Result<Vec<u8>, Status>
-    requires only { OnlyProfile (D.state desk.old) }
-    requires unwritten { IsUnwritten (D.state desk.old) }
-    ensures text { IfSome ((D.state desk.old).gives name.now) (λ text. IfOk result (λ bytes. text ≡ bytes.items)) }
-    ensures short { IfOk result (λ bytes. length bytes.items ≤ greatest_text_of Spectra) }
-    ensures begun { OnOk result (OnlyListed (D.state desk.new)) }
-    ensures finished { Same (D.state desk.old).finished (D.state desk.new).finished }
-    ensures unwritten { IsUnwritten (D.state desk.new) }
-    ensures runs { (done : List Begin) (before : DeskState) → Runs done before (D.state desk.old)
-        → OnOk result (Runs (done ++ text_begins name.now) before (D.state desk.new)) }
-    ensures whole { (done : List Begin) (before : DeskState) → Runs done before (D.state desk.old)
-        → AreReadWhole done before (D.state desk.old)
-        → OnOk result (AreReadWhole (done ++ text_begins name.now) before (D.state desk.new)) }
-    ensures ends { (done : List Begin) (before : DeskState) → Runs done before (D.state desk.old)
-        → IfErr result (Ends (done ++ text_begins name.now) before (D.state desk.new)) }
-    ensures stop { IfErr result (λ status. IsTextStop (class_of status)) }
-{
-    begin_slot(alloc, desk, Slot::Spectra, name)?;
-    begin_slot(alloc, desk, Slot::Report, "")?;
-    read_text(alloc, desk, Slot::Spectra)
-}
-
 /// Writes the report and finishes it.
 fn write_report<D: Desk>(alloc: Global, desk: &mut D, report: &[u8]) -> Result<(), Status>
-    requires begun { OnlyListed (D.state desk.old) }
+    requires begun { HasOutputs None (D.state desk.old) }
     requires unfinished { (D.state desk.old).finished Report ≡ false }
     ensures all { OnOk result
         ((D.state desk.new).written Report ≡ appended ((D.state desk.old).written Report) report.now) }
     ensures part { OnErr result ((n : ℕ)
         × ((D.state desk.new).written Report ≡ appended ((D.state desk.old).written Report) (take n report.now))) }
-    ensures answer { IfErr result (IsWriteAnswer Report) }
+    ensures stop { IfErr result (λ status. IsWriteStop (class_of status)) }
     ensures ended { (order : List Begin) (before : DeskState) → Runs order before (D.state desk.old)
         → AreReadWhole order before (D.state desk.old)
         → OnOk result ((status : Status) → class_of status ≡ ended → Ends order before (D.state desk.new) status) }

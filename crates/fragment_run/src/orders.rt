@@ -1,9 +1,10 @@
 //! The orders that words give: the commands, their options and what they name.
-ghost use Rattle.std.specs.Prelude.{◌≡◌, MatchOption, Some, None};
+ghost use Rattle.std.specs.Prelude.{◌≡◌, ◌∷◌, IfSome, MatchOption, Some, None, option_map};
 ghost use Rattle.std.specs.Option.{option_and_then, option_copied};
-ghost use Rattle.fragment_run.specs.Orders.{adduct_by, list, list_options, list_order_of, order_of};
-ghost use Rattle.fragment_run.specs.Words.{form_of, texts_of};
-ghost use Rattle.fragment_run.specs.inside.NamesOf.{names_of, order_read};
+ghost use Rattle.fragment_run.specs.Orders.{adduct_by, has_own_document, list, list_options, list_order_of, order_of, solve, solve_options, solve_order_of, text_names_of};
+ghost use Rattle.fragment_run.specs.Words.{form_of, options_of, texts_of};
+ghost use Rattle.fragment_run.specs.inside.NamesOf.{names_of, order_read, solve_names_of};
+ghost use Rattle.fragment_run.specs.inside.Words.{rows_of};
 
 use crate::words::{Need, OptionRow, is_of_form, value_of};
 use adducts::{Adduct, by_name};
@@ -16,14 +17,44 @@ pub struct ListNames<'a> {
     pub adduct: Adduct,
 }
 
+/// What a solving is asked for: the name of its document beside these.
+#[derive(Clone, Copy)]
+pub struct SolveNames<'a> {
+    pub spectra: &'a str,
+    pub document: &'a str,
+    pub profile: Option<&'a str>,
+    pub adduct: Adduct,
+}
+
 /// What words ask for.
 #[derive(Clone, Copy)]
 pub enum Order<'a> {
     List(ListNames<'a>),
+    Solve(SolveNames<'a>),
 }
 
 /// The options of a list.
 const LIST_OPTIONS: [OptionRow; 3] = [
+    OptionRow {
+        name: "--in",
+        need: Need::Required,
+    },
+    OptionRow {
+        name: "--profile",
+        need: Need::Optional,
+    },
+    OptionRow {
+        name: "--adduct",
+        need: Need::Optional,
+    },
+];
+
+/// The options of a solving.
+const SOLVE_OPTIONS: [OptionRow; 4] = [
+    OptionRow {
+        name: "--cert",
+        need: Need::Required,
+    },
     OptionRow {
         name: "--in",
         need: Need::Required,
@@ -44,11 +75,28 @@ pub fn read_order(words: &[String]) -> Option<Order<'_>>
         (λ order. order_of (texts_of words.now) ≡ Some (order_read order)) }
 {
     match words {
-        [command, later @ ..] if command.as_str() == "list" => match list_names(later) {
+        [command, later @ ..] => command_order(command.as_str(), later),
+        _ => None,
+    }
+}
+
+/// What a command with these words behind it asks for.
+fn command_order<'a>(command: &str, words: &'a [String]) -> Option<Order<'a>>
+    ensures { MatchOption result (order_of (command.now ∷ texts_of words.now) ≡ None)
+        (λ order. order_of (command.now ∷ texts_of words.now) ≡ Some (order_read order)) }
+{
+    if command == "list" {
+        match list_names(words) {
             Some(names) => Some(Order::List(names)),
             None => None,
-        },
-        _ => None,
+        }
+    } else if command == "solve" {
+        match solve_names(words) {
+            Some(names) => Some(Order::Solve(names)),
+            None => None,
+        }
+    } else {
+        None
     }
 }
 
@@ -63,11 +111,60 @@ fn list_names(words: &[String]) -> Option<ListNames<'_>>
     if !is_of_form(&table, words) {
         return None;
     }
-    let Some(spectra) = value_of(&table, words, "--in") else {
+    text_names(&table, words)
+}
+
+/// What a solving with these options is asked for. `None` where the words have another form, name no adduct of the
+/// table, or name the document as the text or the profile.
+fn solve_names(words: &[String]) -> Option<SolveNames<'_>>
+    ensures { MatchOption result (option_and_then solve_order_of (form_of solve_options (texts_of words.now)) ≡ None)
+        (λ names. option_and_then solve_order_of (form_of solve_options (texts_of words.now))
+        ≡ Some (solve (solve_names_of names))) }
+{
+    let table = SOLVE_OPTIONS;
+    if !is_of_form(&table, words) {
+        return None;
+    }
+    let Some(given) = text_names(&table, words) else {
         return None;
     };
-    let profile = value_of(&table, words, "--profile");
-    match named_adduct(value_of(&table, words, "--adduct")) {
+    let Some(document) = value_of(&table, words, "--cert") else {
+        return None;
+    };
+    let names = SolveNames {
+        spectra: given.spectra,
+        document,
+        profile: given.profile,
+        adduct: given.adduct,
+    };
+    if is_own_document(&names) {
+        Some(names)
+    } else {
+        None
+    }
+}
+
+/// Whether a document is named neither as the text nor as the profile.
+fn is_own_document(names: &SolveNames) -> bool
+    ensures { result ≡ has_own_document (solve_names_of names.now) }
+{
+    let apart = match names.profile {
+        Some(profile) => names.document != profile,
+        None => true,
+    };
+    names.document != names.spectra && apart
+}
+
+/// What words name that each command on a text has. `None` where they name no text, or no adduct of the table.
+fn text_names<'a>(table: &[OptionRow], words: &'a [String]) -> Option<ListNames<'a>>
+    ensures { IfSome (options_of (rows_of table.now) (texts_of words.now)) (λ options.
+        option_map names_of result ≡ text_names_of options) }
+{
+    let Some(spectra) = value_of(table, words, "--in") else {
+        return None;
+    };
+    let profile = value_of(table, words, "--profile");
+    match named_adduct(value_of(table, words, "--adduct")) {
         Some(adduct) => Some(ListNames {
             spectra,
             profile,
@@ -116,8 +213,38 @@ mod tests {
         ),
     ];
 
+    /// Words with a space between, which order a solving, and its names and adduct.
+    const SOLVINGS: [(&str, &str, &str, Option<&str>, &str); 8] = [
+        ("solve --in a --cert b", "a", "b", None, "[M+H]+"),
+        ("solve --cert=b --in=a", "a", "b", None, "[M+H]+"),
+        ("solve --in a --cert=", "a", "", None, "[M+H]+"),
+        ("solve --in=-a --cert=-b", "-a", "-b", None, "[M+H]+"),
+        ("solve --in a --cert ./a", "a", "./a", None, "[M+H]+"),
+        (
+            "solve --profile p --cert b --in a",
+            "a",
+            "b",
+            Some("p"),
+            "[M+H]+",
+        ),
+        (
+            "solve --profile=a --cert b --in a",
+            "a",
+            "b",
+            Some("a"),
+            "[M+H]+",
+        ),
+        (
+            "solve --adduct [M-H]- --profile= --cert b --in a",
+            "a",
+            "b",
+            Some(""),
+            "[M-H]-",
+        ),
+    ];
+
     /// Words with a space between, which are no order.
-    const NO_ORDERS: [&str; 28] = [
+    const NO_ORDERS: [&str; 46] = [
         "",
         "list",
         "list --in",
@@ -143,7 +270,25 @@ mod tests {
         "list --in a --cert b",
         "list --IN a",
         "list a --in",
+        "solve",
         "solve --in a",
+        "solve --cert b",
+        "solve --in a --cert a",
+        "solve --in=a --cert=a",
+        "solve --cert p --in a --profile p",
+        "solve --cert=a --in a --profile=a",
+        "solve --cert= --in=",
+        "solve --in a --cert",
+        "solve --in a --cert -b",
+        "solve --in a --cert b --cert c",
+        "solve --in a --cert b --in a",
+        "solve --in a --cert b --profile p --profile p",
+        "solve --in a --cert b --adduct [M+H]+ --adduct [M+H]+",
+        "solve --in a --cert b --adduct [M+2H]2+",
+        "solve --in a --cert b --json",
+        "solve --in a --cert b --number 1",
+        "solve --help",
+        "Solve --in a --cert b",
         "trial --number 5",
         "--in a list",
     ];
@@ -164,6 +309,21 @@ mod tests {
                 return Err(Fail::new("no order"));
             };
             assert_eq!(rt; names.spectra, spectra);
+            assert_eq!(rt; names.profile, profile);
+            assert_eq!(rt; Some(names.adduct), by_name(adduct));
+        }
+        Ok(())
+    }
+
+    #[test]
+    fn words_order_a_solving(rt: HostRuntime) -> Result<(), Fail> {
+        for (line, spectra, document, profile, adduct) in SOLVINGS {
+            let words = words_of(rt.alloc(), line)?;
+            let Some(Order::Solve(names)) = read_order(&words) else {
+                return Err(Fail::new("no order"));
+            };
+            assert_eq!(rt; names.spectra, spectra);
+            assert_eq!(rt; names.document, document);
             assert_eq!(rt; names.profile, profile);
             assert_eq!(rt; Some(names.adduct), by_name(adduct));
         }

@@ -1,10 +1,13 @@
 //! The outline of a spectrum: the lists of its precursor and its selected peaks, or why it is skipped.
-ghost use Rattle.std.specs.Prelude.{◌≡◌, ◌≤◌, ◌++◌, ◌∷◌, ◌^◌, ◌≤ℤ◌, [], true, not, Ok, IfOk};
+ghost use Rattle.std.specs.Prelude.{◌≡◌, ◌≤◌, ◌++◌, ◌∷◌, ◌^◌, ◌≤ℤ◌, [], true, not, List, Ok, IfOk};
 ghost use Rattle.std.specs.List.{All};
 ghost use Rattle.adducts.specs.Fit.{fit_of, greatest_neutral_mass};
+ghost use Rattle.adducts.specs.Selected.{StandApart};
+ghost use Rattle.loss_graph.specs.Lists.{IsList};
+ghost use Rattle.mgf_reader.specs.Spectrum.{PeakValue};
 ghost use Rattle.fragment_run.specs.Outline.{IsOutline, explained};
 ghost use Rattle.fragment_run.specs.RunSettings.{has_too_many, list_at, window_at};
-ghost use Rattle.fragment_run.specs.inside.Outlines.{outline_of};
+ghost use Rattle.fragment_run.specs.inside.Outlines.{HasOwnLists, outline_of};
 ghost use Rattle.fragment_run.specs.inside.SettingsOf.{settings_value_of};
 
 use crate::settings::RunSettings;
@@ -29,8 +32,9 @@ pub fn read_outline(
     spectrum: &Spectrum,
     settings: &RunSettings,
 ) -> Result<Outline, AllocError>
-    ensures { IfOk result (λ outline. IsOutline (settings_value_of settings.now) spectrum.now.peaks
+    ensures outline { IfOk result (λ outline. IsOutline (settings_value_of settings.now) spectrum.now.peaks
         (fit_of spectrum.now (settings_value_of settings.now).choice) (outline_of outline)) }
+    ensures lists { IfOk result (λ outline. HasOwnLists settings.now.choice (outline_of outline)) }
 {
     match fit(spectrum, &settings.choice) {
         Fit::NoPrecursor => Ok(Outline::Skipped(Skip::NoPrecursor)),
@@ -54,8 +58,10 @@ fn explain(
     requires measured { precursor ≤ 10 ^ 18 }
     requires light { (window_at (settings_value_of settings.now) precursor).centre ≤ℤ greatest_neutral_mass }
     requires below { All (λ peak. peak.mz ≤ precursor) selected.now }
-    ensures { IfOk result (λ outline. outline_of outline
+    requires apart { (peaks : List PeakValue) × StandApart settings.now.choice precursor peaks selected.now }
+    ensures explained { IfOk result (λ outline. outline_of outline
         ≡ explained (settings_value_of settings.now) precursor selected.now) }
+    ensures lists { IfOk result (λ outline. HasOwnLists settings.now.choice (outline_of outline)) }
 {
     let mut lists = Vec::new(alloc);
     if !add_list(alloc, &mut lists, settings, precursor, 0)? {
@@ -79,9 +85,12 @@ fn add_list(
 ) -> Result<bool, AllocError>
     requires measured { mz ≤ 10 ^ 18 }
     requires light { (window_at (settings_value_of settings.now) mz).centre ≤ℤ greatest_neutral_mass }
+    requires counted { intensity ≤ 10 ^ 18 }
     ensures told { IfOk result (λ added. added ≡ not (has_too_many (settings_value_of settings.now) mz)) }
     ensures lists { result ≡ Ok true
         → lists.new.items ≡ lists.old.items ++ list_at (settings_value_of settings.now) mz intensity ∷ [] }
+    ensures list { result ≡ Ok true
+        → IsList settings.now.choice (list_at (settings_value_of settings.now) mz intensity) }
 {
     match list(
         alloc,

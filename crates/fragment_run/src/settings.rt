@@ -1,11 +1,13 @@
-//! What lists are made under.
-ghost use Rattle.std.specs.Prelude.{◌≡◌, IfOk};
+//! What lists and trees are made under.
+ghost use Rattle.std.specs.Prelude.{◌≡◌, ◌∷◌, IfOk};
+ghost use Rattle.element_table.specs.Rule.{neutral_rule_of};
 ghost use Rattle.fragment_run.specs.RunSettings.{run_settings_of};
 
 use adducts::{Adduct, Choice};
 use profile::{Limits, Profile};
+use score_tables::Scores;
 use std::alloc::{AllocError, Global};
-use valence_filter::{Rule, Sieve, fragment_rule};
+use valence_filter::{Rule, Sieve, fragment_rule, neutral_rule};
 
 /// What lists are made under: the adduct, the width of windows and the number of selected peaks; the greatest count of
 /// each element; and the rules of a fragment.
@@ -14,6 +16,15 @@ pub struct RunSettings {
     pub choice: Choice,
     pub limits: Limits,
     pub sieve: Sieve,
+}
+
+/// What trees are found under: what lists are made under, the rules that a candidate has to pass, and the tables of
+/// scores.
+#[derive(Drop)]
+pub struct SolveSettings<'a> {
+    pub listing: RunSettings,
+    pub candidate_rules: Vec<Rule>,
+    pub scores: &'a Scores,
 }
 
 /// The choice that a profile makes for an adduct.
@@ -39,5 +50,15 @@ pub fn fragment_rules_of(
     let mut rules = Vec::new(alloc);
     rules.push(fragment_rule(adduct.bound))?;
     rules.extend_from_slice(profile.rules.items())?;
+    Ok(rules)
+}
+
+/// The rules of a candidate under a profile.
+pub fn candidate_rules_of(alloc: Global, profile: &Profile) -> Result<Vec<Rule>, AllocError>
+    ensures { IfOk result (λ rules. rules.items ≡ neutral_rule_of ∷ profile.now.neutral_rules) }
+{
+    let mut rules = Vec::new(alloc);
+    rules.push(neutral_rule())?;
+    rules.extend_from_slice(profile.neutral_rules.items())?;
     Ok(rules)
 }

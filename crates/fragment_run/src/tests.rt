@@ -16,16 +16,18 @@ const WATER_LIST: &[u8] = b"spectrum 1 \nlists 1\nlist 190178410 0 1\nf H2O\ndon
 /// A profile with carbon, hydrogen and oxygen alone.
 const SUGARS: &[u8] = b"[elements]\nC = 100\nH = 200\nO = 40\n";
 
-/// How a run ended, its code and the line that tells it, what it left in the report, and how many faults of each slot
-/// were counted.
+/// How a run ended, its code and the line that tells it, what it left in the report and in the document, and how many
+/// faults of each slot were counted.
 #[derive(Drop)]
 struct Outcome {
     code: u8,
     line: Vec<u8>,
     report: Vec<u8>,
+    document: Vec<u8>,
     spectra_faults: u64,
     profile_faults: u64,
     report_faults: u64,
+    document_faults: u64,
 }
 
 /// Runs words, with a space between, over a desk with a file `a` of one text and a file `p` of another.
@@ -56,9 +58,11 @@ fn run_words(
         code: status.code(),
         line: fault_text(alloc, &status)?,
         report: desk.written(Slot::Report).to_vec(alloc)?,
+        document: desk.written(Slot::CertOut).to_vec(alloc)?,
         spectra_faults: desk.faults(Slot::Spectra),
         profile_faults: desk.faults(Slot::Profile),
         report_faults: desk.faults(Slot::Report),
+        document_faults: desk.faults(Slot::CertOut),
     })
 }
 
@@ -385,6 +389,111 @@ fn each_failing_call_has_its_status(rt: HostRuntime) -> Result<(), Fail> {
         );
         assert_eq!(rt; counted, counts);
         assert_eq!(rt; outcome.report.as_slice(), left);
+    }
+    Ok(())
+}
+
+/// How a solving of this text ended, where one call failed.
+fn run_solve(
+    alloc: Global,
+    text: &[u8],
+    kind: CallKind,
+    number: u64,
+) -> Result<Outcome, AllocError> {
+    let words = "solve --in a --cert d --profile p";
+    let failing = Some(Failing { kind, number });
+    run_words(alloc, words, text, SUGARS, failing, 65_536)
+}
+
+#[test]
+fn a_solving_begins_its_slots_in_order(rt: HostRuntime) -> Result<(), Fail> {
+    for (kind, number, code, line, counts) in [
+        (CallKind::Begin, 1, 8, "open fault: profile\n", (1, 0, 0, 0)),
+        (CallKind::Begin, 2, 8, "open fault: spectra\n", (0, 1, 0, 0)),
+        (
+            CallKind::Begin,
+            3,
+            8,
+            "open fault: cert-out\n",
+            (0, 0, 1, 0),
+        ),
+        (CallKind::Begin, 4, 8, "open fault: report\n", (0, 0, 0, 1)),
+        (CallKind::Read, 1, 6, "read fault: profile\n", (1, 0, 0, 0)),
+        (CallKind::Read, 3, 6, "read fault: spectra\n", (0, 1, 0, 0)),
+    ] {
+        let outcome = run_solve(rt.alloc(), WATER, kind, number)?;
+        assert_eq!(rt; outcome.code, code);
+        assert_eq!(rt; outcome.line.as_slice(), line.as_bytes());
+        let counted = (
+            outcome.profile_faults,
+            outcome.spectra_faults,
+            outcome.document_faults,
+            outcome.report_faults,
+        );
+        assert_eq!(rt; counted, counts);
+        assert_eq!(rt; outcome.document.len(), 0);
+        assert_eq!(rt; outcome.report.len(), 0);
+    }
+    Ok(())
+}
+
+/// The document of a text without spectra, and its report.
+const NOTHING: (&[u8], &[u8]) = (b"fragdoc 1\nend clean\n", b"end: clean\n");
+
+#[test]
+fn each_failing_write_of_a_solving_has_its_status(rt: HostRuntime) -> Result<(), Fail> {
+    let (document, report) = NOTHING;
+    for (kind, number, line, counts, left) in [
+        (
+            CallKind::Write,
+            1,
+            "write fault: cert-out\n",
+            (1, 0),
+            (b"".as_slice(), b"".as_slice()),
+        ),
+        (
+            CallKind::Write,
+            2,
+            "write fault: report\n",
+            (0, 1),
+            (document, b""),
+        ),
+        (
+            CallKind::Finish,
+            1,
+            "write fault: cert-out\n",
+            (1, 0),
+            (document, report),
+        ),
+        (
+            CallKind::Finish,
+            2,
+            "write fault: report\n",
+            (0, 1),
+            (document, report),
+        ),
+        (CallKind::Finish, 3, "", (0, 0), (document, report)),
+    ] {
+        let outcome = run_solve(rt.alloc(), b"", kind, number)?;
+        assert_eq!(rt; outcome.line.as_slice(), line.as_bytes());
+        assert_eq!(rt; (outcome.document_faults, outcome.report_faults), counts);
+        assert_eq!(rt; outcome.document.as_slice(), left.0);
+        assert_eq!(rt; outcome.report.as_slice(), left.1);
+    }
+    Ok(())
+}
+
+#[test]
+fn a_document_is_named_by_itself(rt: HostRuntime) -> Result<(), Fail> {
+    for words in [
+        "solve --in a --cert a",
+        "solve --in a --cert=p --profile p",
+        "solve --in a --cert d --json",
+        "solve --in a",
+    ] {
+        let outcome = run_words(rt.alloc(), words, WATER, SUGARS, None, 65_536)?;
+        assert_eq!(rt; outcome.code, 2);
+        assert_eq!(rt; outcome.document.len(), 0);
     }
     Ok(())
 }

@@ -1,19 +1,15 @@
 -- What a run that was ordered to list owes to the text that it was named.
-use Rattle.std.specs.Prelude.{◌≡◌, ◌≤◌, ℕ, List, length, Option, Some, None, Ok, IfSome, ⊤}
+use Rattle.std.specs.Prelude.{ℕ, List, Option, Some, None, IfSome}
 use Rattle.frag_io.specs.declared.desk.Slot.{Slot}
-use Rattle.frag_io.specs.declared.desk.Slot.TheVariants.{Spectra, Report}
+use Rattle.frag_io.specs.declared.desk.Slot.TheVariants.{Report}
 use Rattle.frag_io.specs.DeskState.{DeskState}
-use Rattle.frag_io.specs.Desk.{IsEmpty}
 use Rattle.mgf_reader.specs.declared.fault.MgfFault.{MgfFault}
 use Rattle.mgf_reader.specs.Spectrum.{SpectrumValue}
 use Rattle.mgf_reader.specs.Grammar.{Reads}
-use Rattle.profile.specs.Profile.{ProfileValue}
-use Rattle.fragment_run.specs.Class.{Class, class_of, read_fault, write_fault, too_long}
-use Rattle.fragment_run.specs.Leaves.{Leaves, Meaning}
-use Rattle.fragment_run.specs.Limits.{greatest_text_of}
+use Rattle.fragment_run.specs.Leaves.{Meaning}
 use Rattle.fragment_run.specs.Orders.{ListNames}
-use Rattle.fragment_run.specs.ProfilePromise.{outcome_of}
 use Rattle.fragment_run.specs.RunSettings.{RunSettingsValue, run_settings_of}
+use Rattle.fragment_run.specs.TextPromise.{TextPromise}
 use Rattle.fragment_run.specs.list.Sections.{IsReport, IsReportPart}
 use Rattle.fragment_run.specs.declared.status.Status.{Status}
 use Rattle.fragment_run.specs.declared.status.Status.TheVariants.{Done, MgfRefused}
@@ -36,22 +32,8 @@ list_meaning settings text = record {
   part = λ written. IfSome (written Report) (IsReportPart settings text);
 }
 
--- The report is formed whole, from a text that was read whole, before its first byte is written.
-abbrev pub IsFormedFirst : RunSettingsValue → List ℕ → Option (List ℕ) → Class → Type 0
-IsFormedFirst settings text report (read_fault slot) = IsEmpty report
-IsFormedFirst settings text report (too_long slot) = IsEmpty report
-IsFormedFirst settings text report (write_fault slot) =
-    (length text ≤ greatest_text_of Spectra) × IfSome report (IsReportPart settings text)
-IsFormedFirst settings text report class = ⊤
-
--- What a list owes to a text that its desk tells: its answer is right, what it leaves early is a first part of the
--- right report, and it forms the report first.
-pub record ListsText (settings : RunSettingsValue) (text : List ℕ) (now : DeskState) (status : Status) : Type 0 where
-  pub leaves : Leaves (list_meaning settings text) now status
-  pub formed_first : IsFormedFirst settings text (now.written Report) (class_of status)
-
--- The promise of the command: under a profile that is not refused, what is owed to the text that the name gives.
+-- The promise of the command.
 abbrev pub ListPromise : ListNames → DeskState → DeskState → Status → Type 0
 ListPromise names before now status =
-    (profile : ProfileValue) → outcome_of before.gives names.profile ≡ Some (Ok profile)
-    → IfSome (before.gives names.spectra) (λ text. ListsText (run_settings_of profile names.adduct) text now status)
+    TextPromise (λ profile text. list_meaning (run_settings_of profile names.adduct) text) names.profile names.spectra
+    before now status

@@ -1,17 +1,18 @@
 //! The report of a text: a section for each of its spectra, and an ending.
-ghost use Rattle.std.specs.Prelude.{◌≡◌, ◌≤◌, ◌++◌, [], List, false, length, IfOk, OnOk};
+ghost use Rattle.std.specs.Prelude.{◌≡◌, ◌≤◌, ◌++◌, List, length, IfOk, OnOk};
 ghost use Rattle.std.specs.List.{flat_map};
-ghost use Rattle.mgf_reader.specs.Grammar.{Reads};
-ghost use Rattle.mgf_reader.specs.Stands.{Stands};
 ghost use Rattle.frag_io.specs.declared.desk.Slot.TheVariants.{Spectra};
 ghost use Rattle.fragment_run.specs.Limits.{greatest_text_of};
 ghost use Rattle.fragment_run.specs.inside.SettingsOf.{settings_value_of};
-ghost use Rattle.fragment_run.specs.list.ReportForm.{Section, section_text};
-ghost use Rattle.fragment_run.specs.list.Sections.{AreSections, IsReport};
+ghost use Rattle.fragment_run.specs.list.ReportForm.{section_text};
+ghost use Rattle.fragment_run.specs.OneEach.{OneEach};
+ghost use Rattle.fragment_run.specs.Outlined.{IsOutlined, Outlined};
+ghost use Rattle.fragment_run.specs.list.Sections.{IsReport};
 
 use crate::list::section::{push_ending, push_section};
+use crate::reading::read_all;
 use crate::settings::RunSettings;
-use mgf_reader::{FeedFault, MgfFault, Reader};
+use mgf_reader::{MgfFault, Reader};
 use std::alloc::{AllocError, Global};
 
 /// The report of a text, and the line that refused it, where there is one.
@@ -31,23 +32,6 @@ pub fn report_of(
     Ok((report, fault))
 }
 
-/// Reads a text whole, and leaves its spectra in the reader.
-fn read_all(reader: &mut Reader, text: &[u8]) -> Result<Option<MgfFault>, AllocError>
-    requires new { Stands reader.old [] [] }
-    requires unfed { reader.old.fed ≡ 0 }
-    requires open { reader.old.ended ≡ false }
-    requires short { length text.now ≤ greatest_text_of Spectra }
-    ensures { IfOk result (λ fault. Reads text.now reader.new.waiting fault) }
-{
-    // What a feed answers, the end answers again.
-    let _fed = reader.feed(text);
-    match reader.end() {
-        Ok(()) => Ok(None),
-        Err(FeedFault::Mgf(fault)) => Ok(Some(fault)),
-        Err(FeedFault::OutOfMemory) => Err(AllocError),
-    }
-}
-
 /// Appends the sections of the spectra that wait.
 fn push_sections(
     alloc: Global,
@@ -55,8 +39,8 @@ fn push_sections(
     reader: &mut Reader,
     settings: &RunSettings,
 ) -> Result<(), AllocError>
-    ensures { OnOk result ((sections : List Section)
-        × AreSections (settings_value_of settings.now) reader.old.waiting sections
+    ensures { OnOk result ((sections : List Outlined)
+        × OneEach (IsOutlined (settings_value_of settings.now)) reader.old.waiting sections
         × (report.new.items ≡ report.old.items ++ flat_map section_text sections)) }
 {
     while let Some(spectrum) = reader.next() {

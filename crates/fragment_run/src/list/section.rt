@@ -3,8 +3,8 @@ ghost use Rattle.std.specs.Prelude.{◌≡◌, ◌++◌, OnOk};
 ghost use Rattle.tree_certificate.specs.Document.{text_of};
 ghost use Rattle.fragment_run.specs.inside.Outlines.{outline_of};
 ghost use Rattle.fragment_run.specs.inside.SettingsOf.{settings_value_of};
-ghost use Rattle.fragment_run.specs.list.ReportForm.{Section, ending_text, outline_lines, section_text};
-ghost use Rattle.fragment_run.specs.list.Sections.{IsSection};
+ghost use Rattle.fragment_run.specs.list.ReportForm.{ending_text, outline_lines, section_text};
+ghost use Rattle.fragment_run.specs.Outlined.{IsOutlined, Outlined};
 
 use crate::ending::ending_of;
 use crate::outline::{Outline, read_outline};
@@ -20,7 +20,7 @@ pub fn push_section(
     spectrum: &Spectrum,
     settings: &RunSettings,
 ) -> Result<(), AllocError>
-    ensures { OnOk result ((section : Section) × IsSection (settings_value_of settings.now) spectrum.now section
+    ensures { OnOk result ((section : Outlined) × IsOutlined (settings_value_of settings.now) spectrum.now section
         × (text.new.items ≡ text.old.items ++ section_text section)) }
 {
     let outline = read_outline(alloc, spectrum, settings)?;

@@ -1,11 +1,12 @@
-use Rattle.std.proofs.Common.{◌∙◌, ◌-◌, ap, sym, arith, drop, length, take}
+use Rattle.std.proofs.Common.{◌≡◌, ℕ, List, MatchOption, None, Some, arith, subst, sym}
 use Rattle.fragment_run.specs.Orders.{order_of}
-use Rattle.fragment_run.specs.Words.{texts_of}
+use Rattle.fragment_run.specs.inside.NamesOf.{order_read}
 use Rattle.fragment_run.proofs.OptionsOf.{texts-behind}
-use Rattle.fragment_run.proofs.OrderOf.{list_command}
 use Rattle.fragment_run.proofs.orders.read_order.Goals as goal
 
-pub returns-in-Some : goal.returns-in-Some
-returns-in-Some c =
-    ap order_of (texts-behind c.args.words.now c.command-item.result c.as_str.result.now (omega arith) c.command-item.is c.as_str.ensures.value)
-    ∙ list_command c.as_str.result.now (texts_of (take (length c.args.words.now - 1) (drop 1 c.args.words.now))) _ (sym c.eq.ensures ∙ c.if-eq.true) c.in-Some.ensures
+pub returns-in-len1-up : goal.returns-in-len1-up
+returns-in-len1-up c =
+    subst (λ (texts : List (List ℕ)). MatchOption c.command_order.result (order_of texts ≡ None)
+    (λ order. order_of texts ≡ Some (order_read order)))
+    (sym (texts-behind c.args.words.now c.command-item.result c.as_str.result.now (omega arith) c.command-item.is c.as_str.ensures.value))
+    c.command_order.ensures

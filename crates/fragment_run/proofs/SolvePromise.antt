@@ -1,0 +1,161 @@
+-- `solve_meaning`: what a solving owes to its text by its document and its report.
+use Rattle.std.proofs.Common.{◌≡◌, ◌≤◌, ◌++◌, ℕ, List, [], ◌∷◌, Bool, false, length, take, drop, Option, Some, None, sym, ◌∙◌, ap, subst, refl, arith, nat_lt, IfSome}
+use Rattle.std.proofs.Math.Seq.{take-length}
+use Rattle.std.proofs.lemmas.Bool.Decides.{nat_tests}
+use Rattle.std.proofs.lemmas.List.{take-append-drop}
+use Rattle.std.specs.List.{flat_map}
+use Rattle.adducts.specs.Adduct.{AdductValue}
+use Rattle.adducts.specs.declared.choice.Choice.{Choice}
+use Rattle.element_table.specs.Rule.{Rule, neutral_rule_of}
+use Rattle.profile.specs.Profile.{ProfileValue}
+use Rattle.score_tables.specs.Tables.{ScoresValue}
+use Rattle.frag_io.specs.declared.desk.Slot.TheVariants.{Spectra, Report, CertOut}
+use Rattle.frag_io.specs.DeskState.{DeskState}
+use Rattle.frag_io.specs.Desk.{IsEmpty, appended}
+use Rattle.mgf_reader.specs.Spectrum.{SpectrumValue}
+use Rattle.mgf_reader.specs.declared.fault.MgfFault.{MgfFault}
+use Rattle.rank_report.specs.Report.{report_text_of}
+use Rattle.tree_certificate.specs.Document.{ending_line, section_lines, spelling_of, text_of}
+use Rattle.tree_certificate.specs.Line.{header_line}
+use Rattle.tree_certificate.specs.declared.document.Document.{Document}
+use Rattle.tree_certificate.specs.declared.document.Ending.{Ending}
+use Rattle.tree_certificate.specs.declared.document.Section.{Section}
+use Rattle.fragment_run.specs.Class.{class_of}
+use Rattle.fragment_run.specs.Ending.{ending_of}
+use Rattle.fragment_run.specs.Limits.{greatest_text_of}
+use Rattle.fragment_run.specs.OneEach.{OneEach}
+use Rattle.fragment_run.specs.RightSection.{SectionIsRight}
+use Rattle.fragment_run.specs.RightDocument.{DocumentIsRight, IsPrefix, PartIsRight, document_so_far, report_so_far}
+use Rattle.fragment_run.specs.RunSettings.{run_settings_of}
+use Rattle.fragment_run.specs.SolveSettings.{SolveSettingsValue, solve_settings_of}
+use Rattle.fragment_run.specs.TextPromise.{OwesText}
+use Rattle.fragment_run.specs.inside.Made.{IsMade}
+use Rattle.fragment_run.specs.inside.TextSteps.{ArePartlyWritten, IsWriteStop}
+use Rattle.fragment_run.specs.solve.SolvePromise.{IsSolved, solve_meaning}
+use Rattle.fragment_run.specs.declared.status.Status.{Status}
+use Rattle.fragment_run.specs.declared.status.Status.TheVariants.{Done, MgfRefused}
+use Rattle.fragment_run.proofs.TextPromise.{ended_owes, partly_owes, written_alone}
+use Rattle.fragment_run.proofs.OneEach.{length-OneEach}
+
+-- the spelling of a document is that of its parts, joined
+abbrev pub AreParts : Type 0
+AreParts = (document : Document) → spelling_of document ≡ text_of (header_line ∷ [])
+    ++ (flat_map (λ section. text_of (section_lines section)) document.sections ++ text_of (ending_line document.ending ∷ []))
+
+-- a document that ends so is spelled section by section
+spelled_whole : AreParts → (document : Document) (fault : Option MgfFault) → document.ending ≡ ending_of fault
+    → document_so_far document.sections false fault ≡ spelling_of document
+spelled_whole parts document fault is = sym (parts document ∙ ap (λ (ending : Ending). text_of (header_line ∷ [])
+    ++ (flat_map (λ section. text_of (section_lines section)) document.sections ++ text_of (ending_line ending ∷ []))) is)
+
+prefix_of : (n : ℕ) (bytes whole : List ℕ) → whole ≡ bytes → IsPrefix (take n bytes) whole
+prefix_of n bytes whole is = (drop n bytes, is ∙ sym (take-append-drop n bytes))
+
+-- first bytes of a right document and of its report are first parts
+part_of : AreParts → (settings : SolveSettingsValue) (text : List ℕ) (fault : Option MgfFault) (bytes reported : List ℕ) (n m : ℕ)
+    (document report : Option (List ℕ))
+    → IsMade settings text fault bytes reported
+    → ((P : List ℕ → Type 0) → P (take n bytes) → IfSome document P)
+    → ((P : List ℕ → Type 0) → P (take m reported) → IfSome report P)
+    → PartIsRight settings text document report
+part_of parts settings text fault bytes reported n m document report made of_document of_report =
+    let right : DocumentIsRight settings text fault made.document = made.right in
+    let sections : List Section = made.document.sections in
+    let same : length sections ≡ length right.spectra = length-OneEach (SectionIsRight settings) right.spectra sections right.sections in
+    let none : nat_lt (length sections) (length right.spectra) ≡ false = grind (arith, nat_tests) in
+    record {
+      spectra = right.spectra;
+      fault = fault;
+      reads = right.reads;
+      sections = sections;
+      are_right = subst (λ (n : ℕ). OneEach (SectionIsRight settings) (take n right.spectra) sections) (sym same)
+          (subst (λ (s : List SpectrumValue). OneEach (SectionIsRight settings) s sections) (sym (take-length right.spectra))
+          right.sections);
+      document_part = of_document (λ b. IsPrefix b (document_so_far sections (nat_lt (length sections) (length right.spectra)) fault))
+          (prefix_of n bytes _ (ap (λ (more : Bool). document_so_far sections more fault) none
+          ∙ spelled_whole parts made.document fault right.ending ∙ sym made.is_spelled));
+      report_part = of_report (λ b. IsPrefix b (report_so_far sections (nat_lt (length sections) (length right.spectra)) fault))
+          (prefix_of m reported _ (ap (λ (more : Bool). report_so_far sections more fault) none
+          ∙ ap (λ (ending : Ending). report_text_of (record { sections = sections; ending = ending })) (sym right.ending)
+          ∙ sym made.is_reported));
+    }
+
+-- what is owed where the document and the report were not written whole
+pub partly_solves : AreParts → (settings : SolveSettingsValue) (text : List ℕ) (before now : DeskState) (found : Option MgfFault)
+    (bytes reported : List ℕ) (status : Status)
+    → IsWriteStop (class_of status)
+    → length text ≤ greatest_text_of Spectra
+    → IsMade settings text found bytes reported
+    → IsEmpty (before.written CertOut)
+    → IsEmpty (before.written Report)
+    → ArePartlyWritten before now bytes reported
+    → OwesText (solve_meaning settings text) text now status
+partly_solves parts settings text before now found bytes reported status stop short made no_document no_report partly =
+    partly_owes (solve_meaning settings text) text now status stop short
+    (part_of parts settings text found bytes reported partly.of_document partly.of_report (now.written CertOut) (now.written Report) made
+    (λ P holds. written_alone (before.written CertOut) (now.written CertOut) (take partly.of_document bytes) P no_document
+    partly.document_part holds)
+    (λ P holds. written_alone (before.written Report) (now.written Report) (take partly.of_report reported) P no_report partly.report_part
+    holds))
+
+-- document and report were written whole
+solved : (settings : SolveSettingsValue) (text : List ℕ) (before now : DeskState) (found fault : Option MgfFault) (bytes reported : List ℕ)
+    → found ≡ fault → IsMade settings text found bytes reported
+    → IsEmpty (before.written CertOut) → IsEmpty (before.written Report)
+    → now.written CertOut ≡ appended (before.written CertOut) bytes → now.written Report ≡ appended (before.written Report) reported
+    → IsSolved settings text fault now.written
+solved settings text before now found fault bytes reported told made no_document no_report document_is report_is = record {
+  document = made.document;
+  right = subst (λ f. DocumentIsRight settings text f made.document) told made.right;
+  spelled = written_alone (before.written CertOut) (now.written CertOut) bytes (λ b. b ≡ spelling_of made.document) no_document document_is
+      made.is_spelled;
+  reported = written_alone (before.written Report) (now.written Report) reported (λ b. b ≡ report_text_of made.document) no_report report_is
+      made.is_reported;
+}
+
+-- what is owed where they were written whole
+pub done_solves : (settings : SolveSettingsValue) (text : List ℕ) (before now : DeskState) (found : Option MgfFault)
+    (bytes reported : List ℕ)
+    → found ≡ None → IsMade settings text found bytes reported
+    → IsEmpty (before.written CertOut) → IsEmpty (before.written Report)
+    → now.written CertOut ≡ appended (before.written CertOut) bytes → now.written Report ≡ appended (before.written Report) reported
+    → OwesText (solve_meaning settings text) text now Done
+done_solves settings text before now found bytes reported told made no_document no_report document_is report_is =
+    ended_owes (solve_meaning settings text) text now Done refl (solved settings text before now found None bytes reported told made
+    no_document no_report document_is report_is)
+
+-- what is owed where they were written whole of a text that a line refuses
+pub refused_solves : (settings : SolveSettingsValue) (text : List ℕ) (before now : DeskState) (found : Option MgfFault) (fault : MgfFault)
+    (bytes reported : List ℕ)
+    → found ≡ Some fault → IsMade settings text found bytes reported
+    → IsEmpty (before.written CertOut) → IsEmpty (before.written Report)
+    → now.written CertOut ≡ appended (before.written CertOut) bytes → now.written Report ≡ appended (before.written Report) reported
+    → OwesText (solve_meaning settings text) text now (MgfRefused fault)
+refused_solves settings text before now found fault bytes reported told made no_document no_report document_is report_is =
+    ended_owes (solve_meaning settings text) text now (MgfRefused fault) refl
+    (solved settings text before now found (Some fault) bytes reported told made no_document no_report document_is report_is)
+
+abbrev the_settings : Choice → List ℕ → List Rule → List Rule → ScoresValue → SolveSettingsValue
+the_settings choice limits rules candidate_rules scores =
+    record { listing = record { choice = choice; limits = limits; rules = rules }; candidate_rules = candidate_rules; scores = scores }
+
+-- settings whose parts are those of a profile and an adduct are theirs
+pub settings_are : (profile : ProfileValue) (adduct : AdductValue) (settings : SolveSettingsValue)
+    → settings.listing.choice ≡ (run_settings_of profile adduct).choice
+    → settings.listing.limits ≡ profile.limits
+    → settings.listing.rules ≡ (run_settings_of profile adduct).rules
+    → settings.candidate_rules ≡ neutral_rule_of ∷ profile.neutral_rules
+    → settings.scores ≡ profile.scores
+    → settings ≡ solve_settings_of profile adduct
+settings_are profile adduct settings choice limits rules candidate_rules scores =
+    same_parts settings.listing.choice _ settings.listing.limits _ settings.listing.rules _ settings.candidate_rules _ settings.scores _
+    choice limits rules candidate_rules scores
+  where
+    same_parts : (choice choice_too : Choice) (limits limits_too : List ℕ) (rules rules_too candidate_rules candidate_rules_too : List Rule)
+        (scores scores_too : ScoresValue) → choice ≡ choice_too → limits ≡ limits_too → rules ≡ rules_too
+        → candidate_rules ≡ candidate_rules_too
+        → scores ≡ scores_too
+        → the_settings choice limits rules candidate_rules scores ≡ the_settings choice_too limits_too rules_too candidate_rules_too
+        scores_too
+    same_parts choice choice_too limits limits_too rules rules_too candidate_rules candidate_rules_too scores scores_too one two three four
+        five = cc

@@ -1,0 +1,53 @@
+-- Which document is right for a text, and what is a first part of one and of its report.
+use Rattle.std.specs.Prelude.{◌≡◌, ◌++◌, ℕ, List, [], ◌∷◌, length, take, Option, IfSome, nat_lt, Bool, if◌then◌else◌}
+use Rattle.std.specs.List.{flat_map}
+use Rattle.mgf_reader.specs.Grammar.{Reads}
+use Rattle.mgf_reader.specs.Spectrum.{SpectrumValue}
+use Rattle.mgf_reader.specs.declared.fault.MgfFault.{MgfFault}
+use Rattle.rank_report.specs.Report.{ending_text_of, section_text_of}
+use Rattle.tree_certificate.specs.Document.{ending_line, section_lines, text_of}
+use Rattle.tree_certificate.specs.Line.{header_line}
+use Rattle.tree_certificate.specs.declared.document.Document.{Document}
+use Rattle.tree_certificate.specs.declared.document.Section.{Section}
+use Rattle.fragment_run.specs.Ending.{ending_of}
+use Rattle.fragment_run.specs.OneEach.{OneEach}
+use Rattle.fragment_run.specs.RightSection.{SectionIsRight}
+use Rattle.fragment_run.specs.SolveSettings.{SolveSettingsValue}
+
+-- The document is right for a text that is read with this fault: a right section for each of its spectra, in order, and
+-- the ending.
+pub record DocumentIsRight (settings : SolveSettingsValue) (text : List ℕ) (fault : Option MgfFault)
+    (document : Document) : Type 0 where
+  pub spectra : List SpectrumValue
+  pub reads : Reads text spectra fault
+  pub sections : OneEach (SectionIsRight settings) spectra document.sections
+  pub ending : document.ending ≡ ending_of fault
+
+-- some bytes are the first of others
+abbrev pub IsPrefix : List ℕ → List ℕ → Type 0
+IsPrefix bytes whole = (rest : List ℕ) × (whole ≡ bytes ++ rest)
+
+-- the spelling of a document as far as these sections, and of its ending where they are all
+abbrev pub document_so_far : List Section → Bool → Option MgfFault → List ℕ
+document_so_far sections more fault =
+    text_of (header_line ∷ []) ++ flat_map (λ section. text_of (section_lines section)) sections
+    ++ (if more then [] else text_of (ending_line (ending_of fault) ∷ []))
+
+-- the report so far
+abbrev pub report_so_far : List Section → Bool → Option MgfFault → List ℕ
+report_so_far sections more fault =
+    flat_map section_text_of sections ++ (if more then [] else ending_text_of (ending_of fault))
+
+-- What is told of the document and of the report are first parts of those with right sections for the first spectra of
+-- the text, and with the ending where these are all.
+pub record PartIsRight (settings : SolveSettingsValue) (text : List ℕ) (document report : Option (List ℕ))
+    : Type 0 where
+  pub spectra : List SpectrumValue
+  pub fault : Option MgfFault
+  pub reads : Reads text spectra fault
+  pub sections : List Section
+  pub are_right : OneEach (SectionIsRight settings) (take (length sections) spectra) sections
+  pub document_part : IfSome document
+      (λ bytes. IsPrefix bytes (document_so_far sections (nat_lt (length sections) (length spectra)) fault))
+  pub report_part : IfSome report
+      (λ bytes. IsPrefix bytes (report_so_far sections (nat_lt (length sections) (length spectra)) fault))

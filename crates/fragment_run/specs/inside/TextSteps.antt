@@ -1,0 +1,32 @@
+-- What holds between the steps of a command on a text.
+use Rattle.std.specs.Prelude.{◌≡◌, ◌≢◌, ℕ, List, Option, is_some, take, true, ⊤}
+use Rattle.frag_io.specs.declared.desk.Slot.TheVariants.{Profile, Report, CertOut}
+use Rattle.frag_io.specs.Desk.{appended}
+use Rattle.frag_io.specs.DeskState.{DeskState}
+use Rattle.fragment_run.specs.Class.{Class, memory, open_fault, read_fault, write_fault, too_long}
+
+-- the report was begun, and the document where one is named
+pub record HasOutputs (document : Option (List ℕ)) (now : DeskState) : Type 0 where
+  pub report : now.begun Report ≡ true
+  pub document_too : now.begun CertOut ≡ is_some document
+
+-- the classes that a text which is no profile leads to before anything is written
+abbrev pub IsTextStop : Class → Type 0
+IsTextStop memory = ⊤
+IsTextStop (open_fault slot) = slot ≢ Profile
+IsTextStop (read_fault slot) = slot ≢ Profile
+IsTextStop (too_long slot) = slot ≢ Profile
+IsTextStop class = ⊥
+
+-- the classes that writes and ends of slots lead to
+abbrev pub IsWriteStop : Class → Type 0
+IsWriteStop memory = ⊤
+IsWriteStop (write_fault slot) = ⊤
+IsWriteStop class = ⊥
+
+-- some first bytes of a document and of a report were written
+pub record ArePartlyWritten (before now : DeskState) (document report : List ℕ) : Type 0 where
+  pub of_document : ℕ
+  pub of_report : ℕ
+  pub document_part : now.written CertOut ≡ appended (before.written CertOut) (take of_document document)
+  pub report_part : now.written Report ≡ appended (before.written Report) (take of_report report)
