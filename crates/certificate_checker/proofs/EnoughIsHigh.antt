@@ -1,11 +1,11 @@
 -- A number is enough by a vertex's own numbers and the gains of a colour exactly where it is high enough in the table.
-use Rattle.std.proofs.Common.{◌≡◌, ◌+◌, ◌-◌, ◌*◌, ◌^◌, ◌<◌, ◌≤◌, ◌↔◌, ℕ, ℤ, pos, negsuc, ◌+ℤ◌, ◌-ℤ◌, ◌≤ℤ◌, Bool, List, length, ap, sym, refl, ◌∙◌, arith}
+use Rattle.std.proofs.Common.{◌≡◌, ◌+◌, ◌-◌, ◌*◌, ◌^◌, ◌<◌, ◌↔◌, ℕ, ℤ, pos, negsuc, ◌+ℤ◌, ◌-ℤ◌, ◌≤ℤ◌, Bool, List, length, ap, sym, ◌∙◌, arith}
 use Rattle.std.proofs.lemmas.Int.{ints}
 use Rattle.colour_graph.specs.Graph.{Graph, colour_count, colour_of, edge_at, head_colour}
 use Rattle.tree_certificate.specs.ColourSet.{IsPartOf, place_of, without}
 use Rattle.tree_certificate.specs.TableHolds.{IsHighEnough, number_at, number_of}
 use Rattle.certificate_checker.specs.inside.Enough.{AreGainsBefore, AreNumbersBelow, IsEnough, IsEnoughBefore, IsNumber, number_in}
-use Rattle.certificate_checker.proofs.SetParts.{length-part, length-without, place-lt, place-without}
+use Rattle.tree_certificate.proofs.SetParts.{length-part, length-without, place-lt}
 
 -- A vertex's numbers for the sets of the last colours, with the gains of the edges into the colour before them.
 pub record AreGathered (graph : Graph) (rows : List (List ℤ)) (vertex colour size : ℕ) (own gains : List ℤ) : Type 0 where

@@ -9,9 +9,9 @@ use Rattle.tree_certificate.specs.TableHolds.{IsHighAt, IsHighEnough, number_at,
 use Rattle.tree_certificate.proofs.Tables.{place_in-lt}
 use Rattle.certificate_checker.specs.declared.low.Low.{Low}
 use Rattle.certificate_checker.specs.inside.Enough.{AreGainsBefore, AreNumbersBelow, IsEnough, number_in}
-use Rattle.certificate_checker.specs.inside.Low.{IsEarlier, IsFoundOfSizes, IsFoundOfVertex, IsFoundSet, IsLowOfSizes, IsLowOfVertex, IsLowSet, IsSetHigh}
+use Rattle.certificate_checker.specs.inside.Low.{IsEarlier, IsFoundOfSizes, IsFoundOfVertex, IsFoundSet, IsLowOfSizes, IsLowOfVertex, IsSetHigh}
 use Rattle.certificate_checker.proofs.EnoughIsHigh.{AreGathered, enough_is_high}
-use Rattle.certificate_checker.proofs.SetParts.{place-lt}
+use Rattle.tree_certificate.proofs.SetParts.{place-lt}
 
 -- a set of so many colours that stands at a place
 pub record SetAt (size place : ℕ) : Type 0 where

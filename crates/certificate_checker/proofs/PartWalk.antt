@@ -1,13 +1,13 @@
 -- The least number that is enough for a set beside one smaller colour, by the walk over the parts of the set.
-use Rattle.std.proofs.Common.{◌≡◌, ◌≢◌, ◌⊎◌, inl, inr, ◌+◌, ◌-◌, ◌*◌, ◌<◌, ◌≤◌, ◌↔◌, ℕ, suc, ℤ, pos, negsuc, ◌+ℤ◌, ◌≤ℤ◌, ◌<ℤ◌, Bool, true, false, List, ap, sym, refl, subst, ◌∙◌, arith, rules, bit_and, SFits, w32, w64}
+use Rattle.std.proofs.Common.{◌≡◌, ◌⊎◌, inl, inr, ◌+◌, ◌-◌, ◌<◌, ◌≤◌, ◌↔◌, ℕ, ℤ, pos, negsuc, ◌+ℤ◌, ◌≤ℤ◌, ◌<ℤ◌, Bool, true, false, List, ap, sym, ◌∙◌, arith, rules, bit_and, SFits, w32, w64}
 use lib.Signed.{lt_z}
 use Rattle.colour_graph.specs.Graph.{IsScore}
 use Rattle.std.proofs.lemmas.Bool.{cases_eq, cases_lt}
 use Rattle.std.proofs.lemmas.Int.{ints}
 use Rattle.std.proofs.lemmas.Nat.{and_le_l}
 use Rattle.tree_certificate.specs.ColourSet.{IsPartOf, place_of, without}
-use Rattle.certificate_checker.specs.inside.Enough.{AreGainsBelow, AreNoGains, AreNumbersBelow, IsEnough, IsEnoughAbove, IsGain, IsNumber, IsRaised, PartAt, number_in}
-use Rattle.certificate_checker.proofs.SetParts.{IsPartOf-before, IsPartOf-nothing, IsPartOf-self, before, le-before, nothing_of, place-before, place-nothing, place-without}
+use Rattle.certificate_checker.specs.inside.Enough.{AreNoGains, AreNumbersBelow, IsEnough, IsEnoughAbove, IsGain, IsNumber, IsRaised, PartAt, number_in}
+use Rattle.tree_certificate.proofs.SetParts.{IsPartOf-before, IsPartOf-nothing, IsPartOf-self, before, le-before, nothing_of, place-before, place-nothing, place-without}
 
 -- Numbers and gains fit their type.
 fits : (z : ℤ) → negsuc 1999999999999999 ≤ℤ z → z ≤ℤ pos 1000000000100000 → SFits w64 z

@@ -1,5 +1,5 @@
 -- A table that fails somewhere does not hold.
-use Rattle.std.proofs.Common.{◌≡◌, ◌⊎◌, inl, inr, ◌+◌, ◌-◌, ◌*◌, ◌/◌, ◌%◌, ◌^◌, ◌<◌, ◌≤◌, ◌↔◌, ℕ, zero, suc, ℤ, pos, ◌+ℤ◌, ◌≤ℤ◌, ◌<ℤ◌, Bool, true, List, ◌∷◌, length, ap, sym, refl, subst, ◌∙◌, arith, pow-suc, Result, IfOk}
+use Rattle.std.proofs.Common.{◌≡◌, ◌⊎◌, inl, inr, ◌+◌, ◌-◌, ◌*◌, ◌/◌, ◌%◌, ◌^◌, ◌<◌, ◌≤◌, ◌↔◌, ℕ, zero, suc, ℤ, pos, ◌≤ℤ◌, ◌<ℤ◌, Bool, true, List, ◌∷◌, length, ap, refl, ◌∙◌, arith, pow-suc, Result, IfOk}
 use Rattle.std.proofs.lemmas.Bool.{cases_eq}
 use Rattle.std.proofs.lemmas.Int.{ints}
 use Rattle.std.proofs.lemmas.Result.{IfOk-weaker}
@@ -12,7 +12,7 @@ use Rattle.certificate_checker.specs.declared.place.Place.{Place}
 use Rattle.certificate_checker.specs.declared.place.Place.TheVariants.{TableColours, TableShape, TableRow, TableTotal}
 use Rattle.certificate_checker.specs.declared.place.Verdict.{Verdict}
 use Rattle.certificate_checker.specs.declared.place.Verdict.TheVariants.{Holds, Fails}
-use Rattle.certificate_checker.specs.Places.{IsNeeded, IsRowPlace, IsShapePlace, IsTablePlace, IsTotalPlace, IsVerdict}
+use Rattle.certificate_checker.specs.Places.{IsNeeded, IsTablePlace, IsVerdict}
 use Rattle.certificate_checker.proofs.LowPlaces.{SetAt, double, half, set_at}
 
 -- a set whose colours stand, behind one smaller colour, at a place among so many colours
@@ -109,7 +109,7 @@ needed-le graph rows vertex place needed within is high = choose (cases_eq place
     choose (inl none) = none_needed (number_at rows vertex place) needed (is.empty none) (high.empty none)
     choose (inr apart) = by_set (set_behind (colour_count graph - colour_of graph vertex) place (some place apart) within)
 
-no_place : (graph : Graph) (rows : List (List ℤ)) (upper : ℤ) (place : Place) → IsTablePlace graph rows upper place → TableHolds graph rows upper → ⊥
+pub no_place : (graph : Graph) (rows : List (List ℤ)) (upper : ℤ) (place : Place) → IsTablePlace graph rows upper place → TableHolds graph rows upper → ⊥
 no_place graph rows upper (TableColours colours) is holds = many (colour_count graph) is.0 holds.fits.colours
   where
     many : (n : ℕ) → 12 < n → n ≤ 12 → ⊥

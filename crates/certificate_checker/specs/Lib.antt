@@ -1,4 +1,5 @@
 pub mod Places
 pub mod Rows
 pub mod EntryIsRight
+pub mod EntryPlaces
 pub mod inside

@@ -1,2 +1,4 @@
 pub mod Enough
+pub mod Firsts
 pub mod Low
+pub mod Marks

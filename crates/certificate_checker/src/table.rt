@@ -10,7 +10,7 @@ ghost use Rattle.certificate_checker.specs.inside.Low.{AreHigh, AreHighBefore, I
 use crate::gains::row_of;
 use crate::low::Low;
 use crate::place::{Place, Verdict};
-use crate::vertex::first_low_of;
+use crate::vertex::{first_low_of, sets_of};
 use colour_graph::{ColourGraph, VertexId};
 use std::alloc::{AllocError, Global};
 
@@ -92,8 +92,9 @@ fn first_low(
     ensures { IfOk result (λ found. MatchOption found (AreHigh graph.now (map (λ row. row.items) rows.now))
         (λ place. (upper : ℤ) → IsTablePlace graph.now (map (λ row. row.items) rows.now) upper place)) }
 {
-    let mut own = vec![in alloc; 0i64; 4096]?;
-    let mut gains = vec![in alloc; 0i64; 4096]?;
+    let sets = sets_of(graph.colour_count() as usize);
+    let mut own = vec![in alloc; 0i64; sets]?;
+    let mut gains = vec![in alloc; 0i64; sets]?;
     for vertex in 0..graph.vertex_count() {
         if let Some(low) = first_low_of(graph, rows, vertex as VertexId, &mut own, &mut gains) {
             return Ok(Some(place_of(graph, rows, vertex as VertexId, low)));

@@ -23,8 +23,8 @@ pub(crate) fn first_low_of(
     requires fits { FitsGraph graph.now (map (λ row. row.items) rows.now) }
     requires numbers { AreNumbers (map (λ row. row.items) rows.now) }
     requires vertex { vertex < length graph.now.colours }
-    requires own { length own.old ≡ 4096 }
-    requires gains { length gains.old ≡ 4096 }
+    requires own { length own.old ≡ 2 ^ colour_count graph.now }
+    requires gains { length gains.old ≡ 2 ^ colour_count graph.now }
     ensures own { length own.new ≡ length own.old }
     ensures gains { length gains.new ≡ length gains.old }
     ensures found { IsFoundOfVertex graph.now (map (λ row. row.items) rows.now) vertex result }
@@ -81,7 +81,7 @@ fn first_low_of_size(
 }
 
 /// How many sets of so many colours there are.
-fn sets_of(size: usize) -> usize
+pub(crate) fn sets_of(size: usize) -> usize
     requires { size ≤ 12 }
     ensures sets { result ≡ 2 ^ size }
     ensures few { result ≤ 4096 }

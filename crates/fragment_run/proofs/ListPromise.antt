@@ -1,5 +1,5 @@
 -- `list_meaning`: what a list owes to its text by its report.
-use Rattle.std.proofs.Common.{◌≡◌, ◌≤◌, ℕ, List, length, take, Option, Some, None, subst, refl}
+use Rattle.std.proofs.Common.{◌≡◌, ◌≤◌, ℕ, List, length, take, Option, Some, None, subst}
 use Rattle.frag_io.specs.declared.desk.Slot.TheVariants.{Spectra, Report}
 use Rattle.frag_io.specs.DeskState.{DeskState}
 use Rattle.frag_io.specs.Desk.{IsEmpty, appended}
@@ -14,7 +14,7 @@ use Rattle.fragment_run.specs.list.Sections.{IsReport, IsReportPart}
 use Rattle.fragment_run.specs.declared.status.Status.{Status}
 use Rattle.fragment_run.specs.declared.status.Status.TheVariants.{Done, MgfRefused}
 use Rattle.fragment_run.proofs.IsReport.{part_of}
-use Rattle.fragment_run.proofs.TextPromise.{ended_owes, partly_owes, written_alone}
+use Rattle.fragment_run.proofs.TextPromise.{answered_owes, partly_owes, written_alone}
 
 -- what is owed where the report was not written whole
 pub partly_lists : (settings : RunSettingsValue) (text : List ℕ) (now : DeskState) (before : Option (List ℕ)) (found : Option MgfFault)
@@ -43,7 +43,7 @@ pub done_lists : (settings : RunSettingsValue) (text : List ℕ) (now : DeskStat
     → found ≡ None → IsReport settings text found bytes → IsEmpty before → now.written Report ≡ appended before bytes
     → OwesText (list_meaning settings text) text now Done
 done_lists settings text now before found bytes clean right empty is =
-    ended_owes (list_meaning settings text) text now Done refl (listed settings text (now.written Report) before found None bytes clean
+    answered_owes (list_meaning settings text) text now Done tt (listed settings text (now.written Report) before found None bytes clean
     right empty is)
 
 -- what is owed where the whole report was written of a text that a line refuses
@@ -52,5 +52,5 @@ pub refused_lists : (settings : RunSettingsValue) (text : List ℕ) (now : DeskS
     → found ≡ Some fault → IsReport settings text found bytes → IsEmpty before → now.written Report ≡ appended before bytes
     → OwesText (list_meaning settings text) text now (MgfRefused fault)
 refused_lists settings text now before found fault bytes told right empty is =
-    ended_owes (list_meaning settings text) text now (MgfRefused fault) refl
+    answered_owes (list_meaning settings text) text now (MgfRefused fault) tt
     (listed settings text (now.written Report) before found (Some fault) bytes told right empty is)

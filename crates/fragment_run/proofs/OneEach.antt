@@ -1,6 +1,7 @@
 -- `OneEach`: how it grows, how many there are, and how items are handed out one after the other.
-use Rattle.std.proofs.Common.{◌≡◌, ◌++◌, ℕ, List, [], ◌∷◌, length, sym, ◌∙◌, ap, subst, refl, append_assoc, append-nil, suc}
-use Rattle.std.specs.List.{flat_map}
+use Rattle.std.proofs.Common.{◌≡◌, ◌++◌, ℕ, zero, suc, List, [], ◌∷◌, length, slice_get, Some, sym, ◌∙◌, ap, subst, refl, append_assoc, append-nil}
+use Rattle.std.proofs.lemmas.Option.{none-some, same_Some}
+use Rattle.std.specs.List.{AllByRecursion, flat_map}
 use Rattle.fragment_run.specs.OneEach.{OneEach}
 
 -- one more of each
@@ -17,6 +18,21 @@ length-OneEach IsRight [] [] each = refl
 length-OneEach IsRight [] (other ∷ others) each = absurd each
 length-OneEach IsRight (first ∷ items) [] each = absurd each
 length-OneEach IsRight (first ∷ items) (other ∷ others) each = ap suc (length-OneEach IsRight items others each.1)
+
+-- where each of the others is right and has a fact of its own, all are right, and all have the fact
+pub OneEach-right : {X Y : Type 0} (IsRight : X → Y → Type 0) (Has : Y → Type 0) (items : List X) (others : List Y)
+    → OneEach (λ item other. IsRight item other × Has other) items others → OneEach IsRight items others
+OneEach-right IsRight Has [] [] each = tt
+OneEach-right IsRight Has [] (other ∷ others) each = absurd each
+OneEach-right IsRight Has (item ∷ items) [] each = absurd each
+OneEach-right IsRight Has (item ∷ items) (other ∷ others) each = (each.0.0, OneEach-right IsRight Has items others each.1)
+
+pub OneEach-has : {X Y : Type 0} (IsRight : X → Y → Type 0) (Has : Y → Type 0) (items : List X) (others : List Y)
+    → OneEach (λ item other. IsRight item other × Has other) items others → AllByRecursion Has others
+OneEach-has IsRight Has [] [] each = tt
+OneEach-has IsRight Has [] (other ∷ others) each = absurd each
+OneEach-has IsRight Has (item ∷ items) [] each = absurd each
+OneEach-has IsRight Has (item ∷ items) (other ∷ others) each = (each.0.1, OneEach-has IsRight Has items others each.1)
 
 -- what is told of others and of one more
 pub flat_map-push : {Y : Type 0} (told : Y → List ℕ) (others : List Y) (other : Y)
@@ -56,3 +72,13 @@ pub told_more : {Y : Type 0} (told : Y → List ℕ) (made : List Y) (other : Y)
 told_more told made other before now next is more =
     more ∙ ap (λ (bytes : List ℕ). bytes ++ told other) is ∙ append_assoc before (flat_map told made) (told other)
     ∙ ap (λ (bytes : List ℕ). before ++ bytes) (sym (flat_map-push told made other))
+
+-- the one at a place is right for the item at that place
+pub OneEach-at : {X Y : Type 0} (IsRight : X → Y → Type 0) (items : List X) (others : List Y) (place : ℕ) (item : X) (other : Y)
+    → OneEach IsRight items others → slice_get items place ≡ Some item → slice_get others place ≡ Some other → IsRight item other
+OneEach-at IsRight [] others place item other each is also = absurd (none-some item is)
+OneEach-at IsRight (first ∷ items) [] place item other each is also = absurd each
+OneEach-at IsRight (first ∷ items) (one ∷ others) zero item other each is also =
+    subst (IsRight item) (same_Some one other also) (subst (λ taken. IsRight taken one) (same_Some first item is) each.0)
+OneEach-at IsRight (first ∷ items) (one ∷ others) (suc place) item other each is also =
+    OneEach-at IsRight items others place item other each.1 is also

@@ -4,7 +4,7 @@ use Rattle.std.specs.Prelude.{codes, is_some, if◌then◌else◌}
 use Rattle.std.specs.Option.{option_map, option_and_then}
 use Rattle.adducts.specs.Adduct.{AdductValue}
 use Rattle.fragment_run.specs.Words.{Given, OptionRow, form_of, has_form, options_of, value_in}
-use Rattle.fragment_run.specs.Orders.{Order, adduct_by, list, text_names_of}
+use Rattle.fragment_run.specs.Orders.{DocumentNames, Order, adduct_by, check, check_order_of, document_names_in, list, solve_order, solve_order_of, text_names_of}
 use Rattle.fragment_run.specs.declared.orders.ListNames.{ListNames as NamesRead}
 use Rattle.fragment_run.specs.inside.NamesOf.{names_of}
 
@@ -58,3 +58,14 @@ pub list_order-by : (result : Option NamesRead) (order : Option Order) → order
     → MatchOption result (order ≡ None) (λ names. order ≡ Some (list (names_of names)))
 list_order-by None order is = is
 list_order-by (Some names) order is = is
+
+-- the orders of a solving and of a check are those of what is named
+pub solve_order-by : (form : Option (List Given)) (names : Option DocumentNames) → option_and_then document_names_in form ≡ names
+    → option_and_then solve_order_of form ≡ option_and_then solve_order names
+solve_order-by None names is = ap (option_and_then solve_order) is
+solve_order-by (Some options) names is = ap (option_and_then solve_order) is
+
+pub check_order-by : (form : Option (List Given)) (names : Option DocumentNames) → option_and_then document_names_in form ≡ names
+    → option_and_then check_order_of form ≡ option_map (λ names. check names) names
+check_order-by None names is = ap (option_map (λ names. check names)) is
+check_order-by (Some options) names is = ap (option_map (λ names. check names)) is

@@ -373,28 +373,53 @@ runs_start now fresh = record {
   counts = λ slot. omega arith;
 }
 
-refused_ends : (done rest : List Begin) (before now : DeskState) (fault : ProfileFault) → Runs done before now → AreReadWhole done before now
-    → now.begun Profile ≡ true → IsUnwritten now → Ends (done ++ rest) before now (ProfileRefused fault)
-refused_ends done rest before now fault runs whole begun unwritten =
-    ends_of (done ++ rest) done rest before now (ProfileRefused fault) refl
-    runs.begun (limits_fit done before now (refused Profile) runs (λ other told. cc))
-    (record { cause = (refl, begun); nothing = λ w. unwritten }) (λ is. cc) (λ past. absurd (past refl)) (λ other told. cc) (λ answer. whole)
+-- what a read slot gave is refused, and nothing was written
+pub refused_ends : (done rest : List Begin) (before now : DeskState) (slot : Slot) (status : Status)
+    → class_of status ≡ refused slot → IsRead slot → (slot ≢ Profile → rest ≡ []) → Runs done before now → AreReadWhole done before now
+    → now.begun slot ≡ true → IsUnwritten now → Ends (done ++ rest) before now status
+refused_ends done rest before now slot status is read first runs whole begun unwritten =
+    ends_of (done ++ rest) done rest before now status refl
+    runs.begun (limits_fit done before now (class_of status) runs (λ other told. not_long other (sym is ∙ told)))
+    (record { cause = subst (CauseOf before now) (sym is) (read, begun); nothing = λ w. unwritten }) (λ told. not_words (sym is ∙ told))
+    (λ past. first (subst IsPastBegins is past)) (λ other told. absurd (not_open other (sym is ∙ told))) (λ answer. whole)
+  where
+    not_long : (other : Slot) → refused slot ≡ too_long other → ⊥
+    not_long other told = cc
+
+    not_words : refused slot ≡ no_order → ⊥
+    not_words told = cc
+
+    not_open : (other : Slot) → refused slot ≡ open_fault other → ⊥
+    not_open other told = cc
+
+refused_profile : (done rest : List Begin) (before now : DeskState) (fault : ProfileFault) → Runs done before now
+    → AreReadWhole done before now → now.begun Profile ≡ true → IsUnwritten now → Ends (done ++ rest) before now (ProfileRefused fault)
+refused_profile done rest before now fault runs whole begun unwritten =
+    refused_ends done rest before now Profile (ProfileRefused fault) refl refl (λ other. absurd (other refl)) runs whole begun unwritten
 
 -- a profile that was not read for this fault
 pub refusal_ends : (done rest : List Begin) (before now : DeskState) (fault : ProfileFault) → Runs done before now → AreReadWhole done before now
     → now.begun Profile ≡ true → IsUnwritten now → Ends (done ++ rest) before now (refusal_of fault)
 refusal_ends done rest before now P.OutOfMemory runs whole begun unwritten = memory_ends done rest before now runs
-refusal_ends done rest before now P.NotToml runs whole begun unwritten = refused_ends done rest before now P.NotToml runs whole begun unwritten
-refusal_ends done rest before now (P.UnknownKey key) runs whole begun unwritten = refused_ends done rest before now (P.UnknownKey key) runs whole begun unwritten
-refusal_ends done rest before now (P.BadValue key) runs whole begun unwritten = refused_ends done rest before now (P.BadValue key) runs whole begun unwritten
-refusal_ends done rest before now (P.OverLimit key number) runs whole begun unwritten = refused_ends done rest before now (P.OverLimit key number) runs whole begun unwritten
+refusal_ends done rest before now P.NotToml runs whole begun unwritten =
+    refused_profile done rest before now P.NotToml runs whole begun unwritten
+refusal_ends done rest before now (P.UnknownKey key) runs whole begun unwritten =
+    refused_profile done rest before now (P.UnknownKey key) runs whole begun unwritten
+refusal_ends done rest before now (P.BadValue key) runs whole begun unwritten =
+    refused_profile done rest before now (P.BadValue key) runs whole begun unwritten
+refusal_ends done rest before now (P.OverLimit key number) runs whole begun unwritten =
+    refused_profile done rest before now (P.OverLimit key number) runs whole begun unwritten
 
 -- the text of a profile that was read to its end
 pub whole_profile : (name : List ℕ) (before now : DeskState) → IfSome (before.gives name) (λ text. now.left Profile ≡ Some []) → AreReadWhole (profile_begin (Some name)) before now
 whole_profile name before now whole Profile read = whole
 whole_profile name before now whole slot read = tt
 
+-- the end of a run that has no begins to make
+pub ends_all : (order : List Begin) (before now : DeskState) (status : Status) → Ends (order ++ []) before now status
+    → Ends order before now status
+ends_all order before now status = subst (λ (begins : List Begin). Ends begins before now status) (append-nil order)
+
 -- want of memory, where all begins were made
 pub memory_ends_all : (order : List Begin) (before now : DeskState) → Runs order before now → Ends order before now Memory
-memory_ends_all order before now runs =
-    subst (λ (begins : List Begin). Ends begins before now Memory) (append-nil order) (memory_ends order [] before now runs)
+memory_ends_all order before now runs = ends_all order before now Memory (memory_ends order [] before now runs)

@@ -1,22 +1,16 @@
 -- `solve_meaning`: what a solving owes to its text by its document and its report.
-use Rattle.std.proofs.Common.{◌≡◌, ◌≤◌, ◌++◌, ℕ, List, [], ◌∷◌, Bool, false, length, take, drop, Option, Some, None, sym, ◌∙◌, ap, subst, refl, arith, nat_lt, IfSome}
+use Rattle.std.proofs.Common.{◌≡◌, ◌≤◌, ◌++◌, ℕ, List, [], ◌∷◌, Bool, false, length, take, Option, Some, None, refl, sym, ◌∙◌, ap, subst, arith, nat_lt, IfSome}
 use Rattle.std.proofs.Math.Seq.{take-length}
 use Rattle.std.proofs.lemmas.Bool.Decides.{nat_tests}
-use Rattle.std.proofs.lemmas.List.{take-append-drop}
 use Rattle.std.specs.List.{flat_map}
-use Rattle.adducts.specs.Adduct.{AdductValue}
-use Rattle.adducts.specs.declared.choice.Choice.{Choice}
-use Rattle.element_table.specs.Rule.{Rule, neutral_rule_of}
-use Rattle.profile.specs.Profile.{ProfileValue}
-use Rattle.score_tables.specs.Tables.{ScoresValue}
 use Rattle.frag_io.specs.declared.desk.Slot.TheVariants.{Spectra, Report, CertOut}
 use Rattle.frag_io.specs.DeskState.{DeskState}
 use Rattle.frag_io.specs.Desk.{IsEmpty, appended}
 use Rattle.mgf_reader.specs.Spectrum.{SpectrumValue}
 use Rattle.mgf_reader.specs.declared.fault.MgfFault.{MgfFault}
 use Rattle.rank_report.specs.Report.{report_text_of}
-use Rattle.tree_certificate.specs.Document.{ending_line, section_lines, spelling_of, text_of}
-use Rattle.tree_certificate.specs.Line.{header_line}
+use Rattle.tree_certificate.specs.Document.{AreGoodLines, ending_line, section_lines, spelling_of, text_of}
+use Rattle.tree_certificate.specs.Line.{Line, header_line}
 use Rattle.tree_certificate.specs.declared.document.Document.{Document}
 use Rattle.tree_certificate.specs.declared.document.Ending.{Ending}
 use Rattle.tree_certificate.specs.declared.document.Section.{Section}
@@ -26,16 +20,17 @@ use Rattle.fragment_run.specs.Limits.{greatest_text_of}
 use Rattle.fragment_run.specs.OneEach.{OneEach}
 use Rattle.fragment_run.specs.RightSection.{SectionIsRight}
 use Rattle.fragment_run.specs.RightDocument.{DocumentIsRight, IsPrefix, PartIsRight, document_so_far, report_so_far}
-use Rattle.fragment_run.specs.RunSettings.{run_settings_of}
-use Rattle.fragment_run.specs.SolveSettings.{SolveSettingsValue, solve_settings_of}
+use Rattle.fragment_run.specs.SolveSettings.{SolveSettingsValue}
 use Rattle.fragment_run.specs.TextPromise.{OwesText}
+use Rattle.fragment_run.specs.check.CheckPromise.{IsOutcome, accepted}
 use Rattle.fragment_run.specs.inside.Made.{IsMade}
 use Rattle.fragment_run.specs.inside.TextSteps.{ArePartlyWritten, IsWriteStop}
 use Rattle.fragment_run.specs.solve.SolvePromise.{IsSolved, solve_meaning}
 use Rattle.fragment_run.specs.declared.status.Status.{Status}
 use Rattle.fragment_run.specs.declared.status.Status.TheVariants.{Done, MgfRefused}
-use Rattle.fragment_run.proofs.TextPromise.{ended_owes, partly_owes, written_alone}
+use Rattle.fragment_run.proofs.TextPromise.{answered_owes, partly_owes, written_alone}
 use Rattle.fragment_run.proofs.OneEach.{length-OneEach}
+use Rattle.fragment_run.proofs.IsPrefix.{prefix_of}
 
 -- the spelling of a document is that of its parts, joined
 abbrev pub AreParts : Type 0
@@ -48,8 +43,10 @@ spelled_whole : AreParts → (document : Document) (fault : Option MgfFault) →
 spelled_whole parts document fault is = sym (parts document ∙ ap (λ (ending : Ending). text_of (header_line ∷ [])
     ++ (flat_map (λ section. text_of (section_lines section)) document.sections ++ text_of (ending_line ending ∷ []))) is)
 
-prefix_of : (n : ℕ) (bytes whole : List ℕ) → whole ≡ bytes → IsPrefix (take n bytes) whole
-prefix_of n bytes whole is = (drop n bytes, is ∙ sym (take-append-drop n bytes))
+-- the first of good lines are good
+front_good : (front back : List Line) → AreGoodLines (front ++ back) → AreGoodLines front
+front_good [] back all = tt
+front_good (line ∷ front) back all = (all.0, front_good front back all.1)
 
 -- first bytes of a right document and of its report are first parts
 part_of : AreParts → (settings : SolveSettingsValue) (text : List ℕ) (fault : Option MgfFault) (bytes reported : List ℕ) (n m : ℕ)
@@ -71,6 +68,7 @@ part_of parts settings text fault bytes reported n m document report made of_doc
       are_right = subst (λ (n : ℕ). OneEach (SectionIsRight settings) (take n right.spectra) sections) (sym same)
           (subst (λ (s : List SpectrumValue). OneEach (SectionIsRight settings) s sections) (sym (take-length right.spectra))
           right.sections);
+      good = front_good (flat_map section_lines sections) (ending_line made.document.ending ∷ []) made.good.1;
       document_part = of_document (λ b. IsPrefix b (document_so_far sections (nat_lt (length sections) (length right.spectra)) fault))
           (prefix_of n bytes _ (ap (λ (more : Bool). document_so_far sections more fault) none
           ∙ spelled_whole parts made.document fault right.ending ∙ sym made.is_spelled));
@@ -109,8 +107,16 @@ solved settings text before now found fault bytes reported told made no_document
   right = subst (λ f. DocumentIsRight settings text f made.document) told made.right;
   spelled = written_alone (before.written CertOut) (now.written CertOut) bytes (λ b. b ≡ spelling_of made.document) no_document document_is
       made.is_spelled;
+  good = made.good;
   reported = written_alone (before.written Report) (now.written Report) reported (λ b. b ≡ report_text_of made.document) no_report report_is
       made.is_reported;
+  accepted = written_alone (before.written CertOut) (now.written CertOut) bytes
+      (λ b. IsOutcome settings text b (accepted (length made.document.sections) fault)) no_document document_is (record {
+        document = made.document;
+        read = (made.good, made.is_spelled);
+        right = subst (λ f. DocumentIsRight settings text f made.document) told made.right;
+        counted = refl;
+      });
 }
 
 -- what is owed where they were written whole
@@ -121,7 +127,7 @@ pub done_solves : (settings : SolveSettingsValue) (text : List ℕ) (before now 
     → now.written CertOut ≡ appended (before.written CertOut) bytes → now.written Report ≡ appended (before.written Report) reported
     → OwesText (solve_meaning settings text) text now Done
 done_solves settings text before now found bytes reported told made no_document no_report document_is report_is =
-    ended_owes (solve_meaning settings text) text now Done refl (solved settings text before now found None bytes reported told made
+    answered_owes (solve_meaning settings text) text now Done tt (solved settings text before now found None bytes reported told made
     no_document no_report document_is report_is)
 
 -- what is owed where they were written whole of a text that a line refuses
@@ -132,30 +138,5 @@ pub refused_solves : (settings : SolveSettingsValue) (text : List ℕ) (before n
     → now.written CertOut ≡ appended (before.written CertOut) bytes → now.written Report ≡ appended (before.written Report) reported
     → OwesText (solve_meaning settings text) text now (MgfRefused fault)
 refused_solves settings text before now found fault bytes reported told made no_document no_report document_is report_is =
-    ended_owes (solve_meaning settings text) text now (MgfRefused fault) refl
+    answered_owes (solve_meaning settings text) text now (MgfRefused fault) tt
     (solved settings text before now found (Some fault) bytes reported told made no_document no_report document_is report_is)
-
-abbrev the_settings : Choice → List ℕ → List Rule → List Rule → ScoresValue → SolveSettingsValue
-the_settings choice limits rules candidate_rules scores =
-    record { listing = record { choice = choice; limits = limits; rules = rules }; candidate_rules = candidate_rules; scores = scores }
-
--- settings whose parts are those of a profile and an adduct are theirs
-pub settings_are : (profile : ProfileValue) (adduct : AdductValue) (settings : SolveSettingsValue)
-    → settings.listing.choice ≡ (run_settings_of profile adduct).choice
-    → settings.listing.limits ≡ profile.limits
-    → settings.listing.rules ≡ (run_settings_of profile adduct).rules
-    → settings.candidate_rules ≡ neutral_rule_of ∷ profile.neutral_rules
-    → settings.scores ≡ profile.scores
-    → settings ≡ solve_settings_of profile adduct
-settings_are profile adduct settings choice limits rules candidate_rules scores =
-    same_parts settings.listing.choice _ settings.listing.limits _ settings.listing.rules _ settings.candidate_rules _ settings.scores _
-    choice limits rules candidate_rules scores
-  where
-    same_parts : (choice choice_too : Choice) (limits limits_too : List ℕ) (rules rules_too candidate_rules candidate_rules_too : List Rule)
-        (scores scores_too : ScoresValue) → choice ≡ choice_too → limits ≡ limits_too → rules ≡ rules_too
-        → candidate_rules ≡ candidate_rules_too
-        → scores ≡ scores_too
-        → the_settings choice limits rules candidate_rules scores ≡ the_settings choice_too limits_too rules_too candidate_rules_too
-        scores_too
-    same_parts choice choice_too limits limits_too rules rules_too candidate_rules candidate_rules_too scores scores_too one two three four
-        five = cc

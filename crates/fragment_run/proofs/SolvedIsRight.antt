@@ -20,7 +20,7 @@ use Rattle.fragment_run.specs.RightSection.{IsRightEntry, SolvedIsRight}
 use Rattle.fragment_run.specs.SolveSettings.{SolveSettingsValue}
 use Rattle.fragment_run.specs.inside.Outlines.{AreOwnLists}
 use Rattle.fragment_run.proofs.AllPairs.{AllPairs-from_map}
-use Rattle.fragment_run.proofs.Candidates.{candidates_apart, ions_listed}
+use Rattle.fragment_run.proofs.CandidatesOf.{candidates_apart, ions_listed}
 
 abbrev candidate_of : Entry → List ℕ
 candidate_of entry = entry.candidate

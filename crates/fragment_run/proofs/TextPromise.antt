@@ -91,13 +91,23 @@ partly_owes meaning text now status stop short part = record {
     formed (write_fault slot) stop = (short, part)
     formed class stop = tt
 
--- what is owed at the end of all work
-pub ended_owes : (meaning : Meaning) (text : List ℕ) (now : DeskState) (status : Status) → class_of status ≡ ended
+-- what is owed where the text is answered
+pub answered_owes : (meaning : Meaning) (text : List ℕ) (now : DeskState) (status : Status) → IsAnswer (class_of status)
     → meaning.right status now.written → OwesText meaning text now status
-ended_owes meaning text now status is right = record {
-  leaves = record { answer = λ told. right; early = λ stops. absurd (subst StopsEarly is stops) };
-  formed_first = subst (IsFormedFirst meaning text now) (sym is) tt;
+answered_owes meaning text now status is right = record {
+  leaves = record { answer = λ told. right; early = λ stops. absurd (late (class_of status) is stops) };
+  formed_first = formed (class_of status) is;
 }
+  where
+    late : (class : Class) → IsAnswer class → StopsEarly class → ⊥
+    late ended is stops = stops
+    late (refused slot) is stops = stops
+    late class is stops = is
+
+    formed : (class : Class) → IsAnswer class → IsFormedFirst meaning text now class
+    formed ended is = tt
+    formed (refused slot) is = tt
+    formed class is = absurd is
 
 -- the promise of a command that its profile stopped
 pub stopped_text : (meaning : ProfileValue → List ℕ → Meaning) (profile_name : Option (List ℕ)) (name : List ℕ) (before now : DeskState)
@@ -109,6 +119,18 @@ stopped_text meaning profile_name name before now status unwritten own accepted 
     at_some (before.gives name) (λ text. OwesText (meaning profile text) text now status) (λ text told.
     unwritten_owes (meaning profile text) text now status unwritten (accepted profile is) (profile_writes_nothing (class_of status) own))
 
+-- what holds of a profile that was taken holds of the one that is told
+pub taken_for : (P : ProfileValue → Type 0) (gives : List ℕ → Option (List ℕ)) (profile_name : Option (List ℕ)) (profile : ProfileValue)
+    → IsTaken gives profile_name profile → P profile
+    → (told : ProfileValue) → outcome_of gives profile_name ≡ Some (Ok told) → P told
+taken_for P gives profile_name profile taken holds told is = subst P (same_profile profile told (taken (Ok told) is)) holds
+  where
+    the_outcome : ProfileValue → Result ProfileValue ProfileFault
+    the_outcome profile = Ok profile
+
+    same_profile : (one other : ProfileValue) → the_outcome other ≡ Ok one → one ≡ other
+    same_profile one other same = cc
+
 -- the promise of a command behind a profile that was taken
 pub taken_text : (meaning : ProfileValue → List ℕ → Meaning) (profile_name : Option (List ℕ)) (name : List ℕ) (before mid now : DeskState)
     (profile : ProfileValue) (status : Status)
@@ -116,16 +138,9 @@ pub taken_text : (meaning : ProfileValue → List ℕ → Meaning) (profile_name
     → mid.gives name ≡ before.gives name
     → IfSome (mid.gives name) (λ text. OwesText (meaning profile text) text now status)
     → TextPromise meaning profile_name name before now status
-taken_text meaning profile_name name before mid now profile status taken same owes = λ told is.
-    subst (λ p. IfSome (before.gives name) (λ text. OwesText (meaning p text) text now status))
-    (same_profile profile told (taken (Ok told) is))
-    (subst (λ o. IfSome o (λ text. OwesText (meaning profile text) text now status)) same owes)
-  where
-    the_outcome : ProfileValue → Result ProfileValue ProfileFault
-    the_outcome profile = Ok profile
-
-    same_profile : (one other : ProfileValue) → the_outcome other ≡ Ok one → one ≡ other
-    same_profile one other same = cc
+taken_text meaning profile_name name before mid now profile status taken same owes =
+    taken_for (λ told. IfSome (before.gives name) (λ text. OwesText (meaning told text) text now status)) before.gives profile_name profile
+    taken (subst (λ o. IfSome o (λ text. OwesText (meaning profile text) text now status)) same owes)
 
 -- a class that its profile leads to is none of words
 pub profile_is_ordered : (status : Status) → (class_of status ≡ memory) ⊎ IsOfProfile (class_of status) → status ≡ Words → ⊥

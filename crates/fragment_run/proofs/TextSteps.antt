@@ -12,10 +12,10 @@ use Rattle.frag_io.specs.Slot.{Gains, IsRead, IsWritten, Same}
 use Rattle.fragment_run.specs.Begins.{Begin, name_in, text_in}
 use Rattle.fragment_run.specs.Class.{class_of, ended}
 use Rattle.fragment_run.specs.Limits.{AreReadWhole}
-use Rattle.fragment_run.specs.Orders.{text_begins}
+use Rattle.fragment_run.specs.Orders.{read_begin, text_begins, written_begin}
 use Rattle.fragment_run.specs.inside.Running.{Ends, Runs}
 use Rattle.fragment_run.specs.declared.status.Status.{Status}
-use Rattle.fragment_run.proofs.Running.{ended_ends, name_in-earlier, name_in-later, none_in}
+use Rattle.fragment_run.proofs.Running.{ended_ends, name_in-earlier, name_in-later, name_in-other, none_in}
 
 pub on_err : {T E : Type 0} (result : Result T E) (P : Type 0) → P → OnErr result P
 on_err (Ok value) P holds = tt
@@ -55,59 +55,121 @@ pub ends_behind : (done later : List Begin) (one : Begin) (before now : DeskStat
 ends_behind done later one before now status = subst (λ (begins : List Begin). Ends begins before now status)
     (append_assoc done (one ∷ []) later)
 
--- the text that was begun is unread
-pub text_unread : (done : List Begin) (before old now : DeskState) (name : List ℕ) (document : Option (List ℕ)) → Runs done before old
-    → old.begun Spectra ≡ false
-    → now.left Spectra ≡ old.gives name → now.left Spectra ≡ text_in (done ++ text_begins name document) before Spectra
-text_unread done before old now name document runs fresh left =
+-- a text that was begun is unread
+pub text_unread : (done later : List Begin) (before old now : DeskState) (slot : Slot) (name : List ℕ) → Runs done before old
+    → old.begun slot ≡ false → name_in later slot ≡ Some name
+    → now.left slot ≡ old.gives name → now.left slot ≡ text_in (done ++ later) before slot
+text_unread done later before old now slot name runs fresh own left =
     left ∙ runs.gives name
-    ∙ sym (ap (option_and_then before.gives) (name_in-later done (text_begins name document) Spectra
-    (none_in (name_in done Spectra) (sym (runs.begun.slots Spectra) ∙ fresh))))
+    ∙ sym (ap (option_and_then before.gives) (name_in-later done later slot
+    (none_in (name_in done slot) (sym (runs.begun.slots slot) ∙ fresh)) ∙ own))
 
-other_name : (done : List Begin) (name : List ℕ) (document : Option (List ℕ)) (slot : Slot)
-    → name_in (text_begins name document) slot ≡ None
-    → name_in (done ++ text_begins name document) slot ≡ name_in done slot
-other_name done name document slot not = by_name (name_in done slot) refl
-  where
-    by_name : (found : Option (List ℕ)) → name_in done slot ≡ found → name_in (done ++ text_begins name document) slot ≡ name_in done slot
-    by_name None is = name_in-later done (text_begins name document) slot is ∙ not ∙ sym is
-    by_name (Some own) is = name_in-earlier done (text_begins name document) slot own is ∙ sym is
+no_read : false ≡ true → ⊥
+no_read is = cc
 
-no_profile : (name : List ℕ) (document : Option (List ℕ)) → name_in (text_begins name document) Profile ≡ None
-no_profile name None = refl
-no_profile name (Some own) = refl
-
-no_document_read : (name : List ℕ) (document : Option (List ℕ)) → name_in (text_begins name document) CertIn ≡ None
-no_document_read name None = refl
-no_document_read name (Some own) = refl
-
--- all texts were read whole, the last one in this call
-pub text_whole : (done : List Begin) (before old mid now : DeskState) (name : List ℕ) (document : Option (List ℕ))
-    (result : Result (Vec ℕ Global) Status)
+-- all texts so far were read whole, the last one in this call
+pub text_whole : (done : List Begin) (before old mid now : DeskState) (name : List ℕ) (result : Result (Vec ℕ Global) Status)
+    → Runs done before old → old.begun CertIn ≡ false
     → AreReadWhole done before old
-    → ((slot : Slot) → slot ≢ Spectra → slot ≢ CertOut → slot ≢ Report → now.left slot ≡ old.left slot)
-    → mid.left Spectra ≡ text_in (done ++ text_begins name document) before Spectra
+    → now.left Profile ≡ old.left Profile
+    → mid.left Spectra ≡ text_in (done ++ record { slot = Spectra; name = name } ∷ []) before Spectra
     → IfSome (mid.left Spectra) (λ text. IfOk result (λ bytes. (text ≡ bytes.items) × (now.left Spectra ≡ Some [])))
-    → OnOk result (AreReadWhole (done ++ text_begins name document) before now)
-text_whole done before old mid now name document (Err status) whole same unread text = tt
-text_whole done before old mid now name document (Ok bytes) whole same unread text = all
+    → OnOk result (AreReadWhole (done ++ record { slot = Spectra; name = name } ∷ []) before now)
+text_whole done before old mid now name (Err status) runs fresh whole same unread text = tt
+text_whole done before old mid now name (Ok bytes) runs fresh whole same unread text = all
   where
-    kept : (slot : Slot) → slot ≢ Spectra → slot ≢ CertOut → slot ≢ Report → name_in (text_begins name document) slot ≡ None → IsRead slot
-        → IfSome (text_in (done ++ text_begins name document) before slot) (λ text. now.left slot ≡ Some [])
-    kept slot not_text not_document not_report not read =
-        subst (λ o. IfSome (option_and_then before.gives o) (λ text. now.left slot ≡ Some []))
-        (sym (other_name done name document slot not))
-        (IfSome_then (text_in done before slot) (whole slot read) (λ text read_whole. same slot not_text not_document not_report
-        ∙ read_whole))
+    spectra : Begin
+    spectra = record { slot = Spectra; name = name }
 
-    no_read : false ≡ true → ⊥
-    no_read is = cc
-
-    all : AreReadWhole (done ++ text_begins name document) before now
+    all : AreReadWhole (done ++ record { slot = Spectra; name = name } ∷ []) before now
     all Spectra read = subst (λ o. IfSome o (λ text. now.left Spectra ≡ Some [])) unread
         (IfSome_then (mid.left Spectra) text (λ t both. both.1))
-    all Profile read = kept Profile (λ is. cc) (λ is. cc) (λ is. cc) (no_profile name document) read
-    all CertIn read = kept CertIn (λ is. cc) (λ is. cc) (λ is. cc) (no_document_read name document) read
+    all Profile read =
+        subst (λ o. IfSome (option_and_then before.gives o) (λ text. now.left Profile ≡ Some []))
+        (sym (name_in-other done spectra Profile refl))
+        (IfSome_then (text_in done before Profile) (whole Profile read) (λ text read_whole. same ∙ read_whole))
+    all CertIn read =
+        subst (λ o. IfSome (option_and_then before.gives o) (λ text. now.left CertIn ≡ Some []))
+        (sym (name_in-other done spectra CertIn refl ∙ none_in (name_in done CertIn) (sym (runs.begun.slots CertIn) ∙ fresh))) tt
+    all Report read = absurd (no_read read)
+    all CertOut read = absurd (no_read read)
+
+-- begins that name a slot alike do so behind the same others
+same_name : (done some more : List Begin) (slot : Slot) → name_in some slot ≡ name_in more slot
+    → name_in (done ++ some) slot ≡ name_in (done ++ more) slot
+same_name done some more slot same = by_name (name_in done slot) refl
+  where
+    by_name : (found : Option (List ℕ)) → name_in done slot ≡ found → name_in (done ++ some) slot ≡ name_in (done ++ more) slot
+    by_name None is = name_in-later done some slot is ∙ same ∙ sym (name_in-later done more slot is)
+    by_name (Some own) is = name_in-earlier done some slot own is ∙ sym (name_in-earlier done more slot own is)
+
+-- where the text of spectra is the last that was read, all texts of a command that reads no document are
+whole_along : (done some more : List Begin) (before now : DeskState) (slot : Slot) → name_in some slot ≡ name_in more slot
+    → IfSome (text_in (done ++ some) before slot) (λ text. now.left slot ≡ Some [])
+    → IfSome (text_in (done ++ more) before slot) (λ text. now.left slot ≡ Some [])
+whole_along done some more before now slot same =
+    subst (λ o. IfSome (option_and_then before.gives o) (λ text. now.left slot ≡ Some [])) (same_name done some more slot same)
+
+pub whole_alone : (done : List Begin) (before now : DeskState) (name : List ℕ)
+    → AreReadWhole (done ++ record { slot = Spectra; name = name } ∷ []) before now
+    → AreReadWhole (done ++ text_begins name None) before now
+whole_alone done before now name whole = all
+  where
+    along : (slot : Slot) → name_in (record { slot = Spectra; name = name } ∷ []) slot ≡ name_in (text_begins name None) slot
+        → IsRead slot → IfSome (text_in (done ++ text_begins name None) before slot) (λ text. now.left slot ≡ Some [])
+    along slot same read =
+        whole_along done (record { slot = Spectra; name = name } ∷ []) (text_begins name None) before now slot same (whole slot read)
+
+    all : AreReadWhole (done ++ text_begins name None) before now
+    all Spectra read = along Spectra refl read
+    all Profile read = along Profile refl read
+    all CertIn read = along CertIn refl read
+    all Report read = absurd (no_read read)
+    all CertOut read = absurd (no_read read)
+
+pub whole_written : (done : List Begin) (before now : DeskState) (name document : List ℕ)
+    → AreReadWhole (done ++ record { slot = Spectra; name = name } ∷ []) before now
+    → AreReadWhole (done ++ text_begins name (Some (written_begin document))) before now
+whole_written done before now name document whole = all
+  where
+    along : (slot : Slot)
+        → name_in (record { slot = Spectra; name = name } ∷ []) slot ≡ name_in (text_begins name (Some (written_begin document))) slot
+        → IsRead slot
+        → IfSome (text_in (done ++ text_begins name (Some (written_begin document))) before slot) (λ text. now.left slot ≡ Some [])
+    along slot same read =
+        whole_along done (record { slot = Spectra; name = name } ∷ []) (text_begins name (Some (written_begin document))) before now slot
+        same (whole slot read)
+
+    all : AreReadWhole (done ++ text_begins name (Some (written_begin document))) before now
+    all Spectra read = along Spectra refl read
+    all Profile read = along Profile refl read
+    all CertIn read = along CertIn refl read
+    all Report read = absurd (no_read read)
+    all CertOut read = absurd (no_read read)
+
+-- and all texts of one that reads a document, where that is read then
+pub whole_read : (done : List Begin) (before mid now : DeskState) (name document bytes : List ℕ)
+    → AreReadWhole (done ++ record { slot = Spectra; name = name } ∷ []) before mid
+    → ((slot : Slot) → slot ≢ CertIn → now.left slot ≡ mid.left slot)
+    → mid.left CertIn ≡ text_in (done ++ text_begins name (Some (read_begin document))) before CertIn
+    → IfSome (mid.left CertIn) (λ text. (text ≡ bytes) × (now.left CertIn ≡ Some []))
+    → AreReadWhole (done ++ text_begins name (Some (read_begin document))) before now
+whole_read done before mid now name document bytes whole same unread read_whole = all
+  where
+    along : (slot : Slot)
+        → name_in (record { slot = Spectra; name = name } ∷ []) slot ≡ name_in (text_begins name (Some (read_begin document))) slot
+        → slot ≢ CertIn → IsRead slot
+        → IfSome (text_in (done ++ text_begins name (Some (read_begin document))) before slot) (λ text. now.left slot ≡ Some [])
+    along slot alike other read =
+        whole_along done (record { slot = Spectra; name = name } ∷ []) (text_begins name (Some (read_begin document))) before now slot
+        alike (IfSome_then (text_in (done ++ record { slot = Spectra; name = name } ∷ []) before slot) (whole slot read)
+        (λ text is. same slot other ∙ is))
+
+    all : AreReadWhole (done ++ text_begins name (Some (read_begin document))) before now
+    all Spectra read = along Spectra refl (λ is. cc) read
+    all Profile read = along Profile refl (λ is. cc) read
+    all CertIn read = subst (λ o. IfSome o (λ text. now.left CertIn ≡ Some [])) unread
+        (IfSome_then (mid.left CertIn) read_whole (λ t both. both.1))
     all Report read = absurd (no_read read)
     all CertOut read = absurd (no_read read)
 
@@ -119,9 +181,6 @@ pub outputs_ended : (order : List Begin) (before old now : DeskState) (status : 
 outputs_ended order before old now status is runs whole same document_done done =
     ended_ends order before now status is runs all_whole all_finished
   where
-    no_read : false ≡ true → ⊥
-    no_read told = cc
-
     read_whole : (slot : Slot) → slot ≢ CertOut → slot ≢ Report → IsRead slot
         → IfSome (text_in order before slot) (λ text. now.left slot ≡ Some [])
     read_whole slot not_document not_report read = IfSome_then (text_in order before slot) (whole slot read)

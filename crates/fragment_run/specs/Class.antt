@@ -1,9 +1,9 @@
 -- The classes of statuses: what a promise on any command tells them apart by.
 use Rattle.std.specs.Prelude.{◌≢◌, ⊤}
 use Rattle.frag_io.specs.declared.desk.Slot.{Slot}
-use Rattle.frag_io.specs.declared.desk.Slot.TheVariants.{Profile}
+use Rattle.frag_io.specs.declared.desk.Slot.TheVariants.{Profile, CertIn}
 use Rattle.fragment_run.specs.declared.status.Status.{Status}
-use Rattle.fragment_run.specs.declared.status.Status.TheVariants.{Done, Words, Memory, ReadFault, WriteFault, OpenFault, TooLong, MgfRefused, ProfileRefused}
+use Rattle.fragment_run.specs.declared.status.Status.TheVariants.{Done, Words, Memory, ReadFault, WriteFault, OpenFault, TooLong, MgfRefused, ProfileRefused, DocumentRefused, DocumentRejected}
 
 pub data Class : Type 0 where
   -- the words are no order
@@ -29,6 +29,8 @@ class_of Words = no_order
 class_of Memory = memory
 class_of (MgfRefused fault) = ended
 class_of (ProfileRefused fault) = refused Profile
+class_of (DocumentRefused fault) = refused CertIn
+class_of (DocumentRejected place) = refused CertIn
 class_of (ReadFault slot) = read_fault slot
 class_of (WriteFault slot) = write_fault slot
 class_of (OpenFault slot) = open_fault slot

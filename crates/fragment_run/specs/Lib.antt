@@ -20,4 +20,5 @@ pub mod RightSection
 pub mod RightDocument
 pub mod list
 pub mod solve
+pub mod check
 pub mod inside

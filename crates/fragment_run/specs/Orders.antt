@@ -2,7 +2,7 @@
 use Rattle.std.specs.Prelude.{ℕ, List, [], ◌∷◌, ◌++◌, codes, Option, Some, None, Bool, true, not, ◌&&◌, if◌then◌else◌, unwrap_or}
 use Rattle.std.specs.Option.{option_map, option_and_then}
 use Rattle.std.specs.Str.{bytes_eq}
-use Rattle.frag_io.specs.declared.desk.Slot.TheVariants.{Spectra, Report, CertOut}
+use Rattle.frag_io.specs.declared.desk.Slot.TheVariants.{Spectra, CertIn, Report, CertOut}
 use Rattle.adducts.specs.Adduct.{AdductValue}
 use Rattle.adducts.specs.Table.{adduct_named}
 use Rattle.fragment_run.specs.Begins.{Begin, profile_begin}
@@ -14,8 +14,8 @@ pub record ListNames : Type 0 where
   pub profile : Option (List ℕ)
   pub adduct : AdductValue
 
--- what a solving is asked for: the name of its document beside these
-pub record SolveNames : Type 0 where
+-- what a solving or a check is asked for: the name of its document beside these
+pub record DocumentNames : Type 0 where
   pub spectra : List ℕ
   pub document : List ℕ
   pub profile : Option (List ℕ)
@@ -24,7 +24,8 @@ pub record SolveNames : Type 0 where
 -- what a run is asked to do
 pub data Order : Type 0 where
   list : ListNames → Order
-  solve : SolveNames → Order
+  solve : DocumentNames → Order
+  check : DocumentNames → Order
 
 -- the adduct of the table that is named, or `[M+H]+` where none is
 abbrev pub adduct_by : Option (List ℕ) → Option AdductValue
@@ -47,8 +48,9 @@ text_names_of options =
 abbrev pub list_order_of : List Given → Option Order
 list_order_of options = option_map (λ names. list names) (text_names_of options)
 
-abbrev pub solve_options : List OptionRow
-solve_options = record { name = codes "--cert"; need = required } ∷ list_options
+-- the options of a solving, and of a check
+abbrev pub document_options : List OptionRow
+document_options = record { name = codes "--cert"; need = required } ∷ list_options
 
 -- a name is another than that of a slot that may have one
 abbrev pub is_other_than : List ℕ → Option (List ℕ) → Bool
@@ -56,46 +58,63 @@ is_other_than name None = true
 is_other_than name (Some other) = not (bytes_eq name other)
 
 -- a document is never named as the text or the profile is
-abbrev pub has_own_document : SolveNames → Bool
+abbrev pub has_own_document : DocumentNames → Bool
 has_own_document names =
     not (bytes_eq names.document names.spectra) && is_other_than names.document names.profile
 
 -- the order of a solving, where it is one
-abbrev pub solve_order : SolveNames → Option Order
+abbrev pub solve_order : DocumentNames → Option Order
 solve_order names = if has_own_document names then Some (solve names) else None
 
--- what a solving is asked for by the name of its document and what a list would be asked for
-abbrev pub with_document : List ℕ → ListNames → SolveNames
+-- what is asked for by the name of a document and what a list would be asked for
+abbrev pub with_document : List ℕ → ListNames → DocumentNames
 with_document document names =
     record { spectra = names.spectra; document = document; profile = names.profile; adduct = names.adduct }
 
+-- what options name for a command on a text and a document, where they name it
+abbrev pub document_names_in : List Given → Option DocumentNames
+document_names_in options =
+    option_and_then (λ names.
+    option_map (λ document. with_document document names) (value_in (codes "--cert") options))
+    (text_names_of options)
+
 -- the order of a solving by its options
 abbrev pub solve_order_of : List Given → Option Order
-solve_order_of options =
-    option_and_then (λ names.
-    option_and_then (λ document. solve_order (with_document document names)) (value_in (codes "--cert") options))
-    (text_names_of options)
+solve_order_of options = option_and_then solve_order (document_names_in options)
+
+-- The order of a check by its options. It writes no document, so that the document may have any name.
+abbrev pub check_order_of : List Given → Option Order
+check_order_of options = option_map (λ names. check names) (document_names_in options)
 
 -- The first word is the command, and the later ones give its options. All other words are no order.
 abbrev pub order_of : List (List ℕ) → Option Order
 order_of [] = None
 order_of (command ∷ words) =
     if bytes_eq command (codes "list") then option_and_then list_order_of (form_of list_options words) else
-    if bytes_eq command (codes "solve") then option_and_then solve_order_of (form_of solve_options words) else None
+    if bytes_eq command (codes "solve") then option_and_then solve_order_of (form_of document_options words) else
+    if bytes_eq command (codes "check") then option_and_then check_order_of (form_of document_options words) else None
 
 -- the name of the profile of an order, where it has one
 abbrev pub profile_named : Order → Option (List ℕ)
 profile_named (list names) = names.profile
 profile_named (solve names) = names.profile
+profile_named (check names) = names.profile
 
--- the begin of a document, where one is named
-abbrev pub document_begin : Option (List ℕ) → List Begin
+-- the begin of a document that is written, and of one that is read
+abbrev pub written_begin : List ℕ → Begin
+written_begin name = record { slot = CertOut; name = name }
+
+abbrev pub read_begin : List ℕ → Begin
+read_begin name = record { slot = CertIn; name = name }
+
+-- the begin of a document, where a command has one
+abbrev pub document_begin : Option Begin → List Begin
 document_begin None = []
-document_begin (Some name) = record { slot = CertOut; name = name } ∷ []
+document_begin (Some begin) = begin ∷ []
 
--- the begins of a command that reports on a text, and writes a document about it where one is named; the report has no
+-- the begins of a command that reports on a text, and on a document or writes one, where it has one; the report has no
 -- name
-abbrev pub text_begins : List ℕ → Option (List ℕ) → List Begin
+abbrev pub text_begins : List ℕ → Option Begin → List Begin
 text_begins name document =
     record { slot = Spectra; name = name }
     ∷ (document_begin document ++ record { slot = Report; name = [] } ∷ [])
@@ -103,4 +122,5 @@ text_begins name document =
 -- the order in which a command begins its slots
 abbrev pub begins_of : Order → List Begin
 begins_of (list names) = profile_begin names.profile ++ text_begins names.spectra None
-begins_of (solve names) = profile_begin names.profile ++ text_begins names.spectra (Some names.document)
+begins_of (solve names) = profile_begin names.profile ++ text_begins names.spectra (Some (written_begin names.document))
+begins_of (check names) = profile_begin names.profile ++ text_begins names.spectra (Some (read_begin names.document))

@@ -5,7 +5,7 @@ use Rattle.mgf_reader.specs.Grammar.{Reads}
 use Rattle.mgf_reader.specs.Spectrum.{SpectrumValue}
 use Rattle.mgf_reader.specs.declared.fault.MgfFault.{MgfFault}
 use Rattle.rank_report.specs.Report.{ending_text_of, section_text_of}
-use Rattle.tree_certificate.specs.Document.{ending_line, section_lines, text_of}
+use Rattle.tree_certificate.specs.Document.{AreGoodLines, ending_line, section_lines, text_of}
 use Rattle.tree_certificate.specs.Line.{header_line}
 use Rattle.tree_certificate.specs.declared.document.Document.{Document}
 use Rattle.tree_certificate.specs.declared.document.Section.{Section}
@@ -39,7 +39,7 @@ report_so_far sections more fault =
     flat_map section_text_of sections ++ (if more then [] else ending_text_of (ending_of fault))
 
 -- What is told of the document and of the report are first parts of those with right sections for the first spectra of
--- the text, and with the ending where these are all.
+-- the text, each of which has a spelling, and with the ending where these are all.
 pub record PartIsRight (settings : SolveSettingsValue) (text : List ℕ) (document report : Option (List ℕ))
     : Type 0 where
   pub spectra : List SpectrumValue
@@ -47,6 +47,7 @@ pub record PartIsRight (settings : SolveSettingsValue) (text : List ℕ) (docume
   pub reads : Reads text spectra fault
   pub sections : List Section
   pub are_right : OneEach (SectionIsRight settings) (take (length sections) spectra) sections
+  pub good : AreGoodLines (flat_map section_lines sections)
   pub document_part : IfSome document
       (λ bytes. IsPrefix bytes (document_so_far sections (nat_lt (length sections) (length spectra)) fault))
   pub report_part : IfSome report

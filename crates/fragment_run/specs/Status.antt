@@ -8,7 +8,11 @@ use Rattle.profile.specs.declared.fault.ProfileFault.{ProfileFault}
 use Rattle.profile.specs.declared.fault.ProfileFault.TheVariants.{NotToml, UnknownKey, BadValue, OverLimit, OutOfMemory}
 use Rattle.tree_certificate.specs.Title.{escaped}
 use Rattle.fragment_run.specs.declared.status.Status.{Status}
-use Rattle.fragment_run.specs.declared.status.Status.TheVariants.{Done, Words, Memory, ReadFault, WriteFault, OpenFault, TooLong, MgfRefused, ProfileRefused}
+use Rattle.fragment_run.specs.declared.status.Status.TheVariants.{Done, Words, Memory, ReadFault, WriteFault, OpenFault, TooLong, MgfRefused, ProfileRefused, DocumentRefused, DocumentRejected}
+use Rattle.tree_certificate.specs.declared.fault.CertFault.{CertFault}
+use Rattle.tree_certificate.specs.declared.fault.CertFault.TheVariants as cert
+use Rattle.fragment_run.specs.declared.reject.RejectPart.{RejectPart}
+use Rattle.fragment_run.specs.declared.reject.RejectPart.TheVariants as part
 
 abbrev pub code_of : Status → ℕ
 code_of Done = 0
@@ -20,6 +24,8 @@ code_of (ReadFault slot) = 6
 code_of (WriteFault slot) = 7
 code_of (OpenFault slot) = 8
 code_of (TooLong slot) = 9
+code_of (DocumentRefused fault) = 10
+code_of (DocumentRejected place) = 11
 
 abbrev pub slot_name_of : Slot → List ℕ
 slot_name_of Spectra = codes "spectra"
@@ -36,6 +42,27 @@ refusal_text (BadValue name) = codes "bad value " ++ escaped name
 refusal_text (OverLimit name number) = codes "out of range " ++ escaped name ++ codes " " ++ signed_decimal number
 refusal_text OutOfMemory = codes "no memory"
 
+-- why the bytes of a document are refused
+abbrev pub document_refusal_text : CertFault → List ℕ
+document_refusal_text (cert.BadLine line) = codes "line " ++ decimal line ++ codes ": bad line"
+document_refusal_text (cert.TooBig line) = codes "line " ++ decimal line ++ codes ": too big"
+document_refusal_text cert.Truncated = codes "truncated"
+document_refusal_text cert.OutOfMemory = codes "no memory"
+
+-- the part of a section that differs; where the tree of an entry is wrong is not told
+abbrev pub part_text : RejectPart → List ℕ
+part_text part.Missing = codes "missing"
+part_text part.Extra = codes "extra"
+part_text part.Spectrum = codes "spectrum"
+part_text part.Skipped = codes "skip"
+part_text (part.Lists number) = codes "list " ++ decimal number
+part_text part.Candidates = codes "candidates"
+part_text (part.Error number) = codes "error " ++ decimal number
+part_text (part.Outcome number) = codes "outcome " ++ decimal number
+part_text (part.Tree number place) = codes "tree " ++ decimal number
+part_text (part.Order number) = codes "order " ++ decimal number
+part_text part.Ending = codes "ending"
+
 -- the line that tells a status, with its line feed; a run that is done has none
 abbrev pub fault_line : Status → List ℕ
 fault_line Done = []
@@ -48,3 +75,6 @@ fault_line (TooLong slot) = codes "too long: " ++ slot_name_of slot ++ codes "\n
 fault_line (MgfRefused fault) =
     codes "mgf: line " ++ decimal fault.line ++ codes ": " ++ kind_text fault.kind ++ codes "\n"
 fault_line (ProfileRefused fault) = codes "profile: " ++ refusal_text fault ++ codes "\n"
+fault_line (DocumentRefused fault) = codes "document: " ++ document_refusal_text fault ++ codes "\n"
+fault_line (DocumentRejected place) =
+    codes "rejected: section " ++ decimal place.section ++ codes ": " ++ part_text place.part ++ codes "\n"

@@ -7,3 +7,7 @@ pub mod ProfileTaken
 pub mod Outlines
 pub mod SettingsOf
 pub mod Made
+pub mod CheckAnswers
+pub mod Checked
+pub mod Numbered
+pub mod GoodLines

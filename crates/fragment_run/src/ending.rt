@@ -1,5 +1,7 @@
 //! How a document ends for a text.
-ghost use Rattle.std.specs.Prelude.{◌≡◌};
+ghost use Rattle.std.specs.Prelude.{◌≡◌, ◌≤◌};
+ghost use Rattle.tree_certificate.specs.Document.{IsGoodLine, ending_line};
+ghost use Rattle.tree_certificate.specs.Line.{greatest_line_number};
 ghost use Rattle.fragment_run.specs.Ending as spec;
 
 use mgf_reader::MgfFault;
@@ -17,3 +19,17 @@ pub fn ending_of(fault: Option<MgfFault>) -> Ending
         }),
     }
 }
+
+/// Tells that the line of an ending has a spelling, for proofs alone: it does nothing.
+pub fn ending_is_good(fault: Option<MgfFault>)
+    ensures { IsGoodLine (ending_line (spec.ending_of fault)) }
+{
+    if let Some(fault) = fault {
+        is_line(fault.line);
+    }
+}
+
+/// Tells the range of a line, for proofs alone: it does nothing.
+fn is_line(line: u32)
+    ensures { line ≤ greatest_line_number }
+{}

@@ -3,14 +3,19 @@
 
 ghost use Rattle.std.specs.Prelude.{◌≡◌, ◌↔◌, false, Some, None};
 ghost use Rattle.frag_io.specs.declared.desk.Slot.{Slot};
-ghost use Rattle.fragment_run.specs.Orders.{ListNames, Order, SolveNames, begins_of, list, order_of, profile_named, solve};
+ghost use Rattle.fragment_run.specs.Orders.{DocumentNames, ListNames, Order, begins_of, check, list, order_of, profile_named, solve};
 ghost use Rattle.fragment_run.specs.Words.{texts_of};
 ghost use Rattle.fragment_run.specs.Causes.{Causes};
 ghost use Rattle.fragment_run.specs.Steps.{Steps};
 ghost use Rattle.fragment_run.specs.ProfilePromise.{ProfilePromise};
+ghost use Rattle.fragment_run.specs.check.CheckPromise.{CheckPromise};
 ghost use Rattle.fragment_run.specs.list.ListPromise.{ListPromise};
 ghost use Rattle.fragment_run.specs.solve.SolvePromise.{SolvePromise};
 
+mod candidates;
+mod check;
+#[cfg(test)]
+mod check_tests;
 mod ending;
 mod laws;
 mod list;
@@ -18,8 +23,11 @@ mod orders;
 mod outline;
 mod profile_text;
 mod reading;
+mod reject;
 mod settings;
 mod solve;
+#[cfg(test)]
+mod solve_tests;
 mod status;
 mod steps;
 #[cfg(test)]
@@ -28,7 +36,10 @@ mod text_steps;
 mod words;
 
 use frag_io::Desk;
-pub use laws::a_spectrum_has_one_outline;
+pub use laws::{
+    a_rejected_document_is_not_right, a_spectrum_has_one_outline, what_is_accepted_is_nothing_else,
+};
+pub use reject::{RejectPart, RejectPlace};
 pub use status::{Status, fault_text};
 use std::alloc::Global;
 pub use steps::{GREATEST_DOCUMENT, GREATEST_TEXT};
@@ -51,12 +62,15 @@ pub fn run<D: Desk>(alloc: Global, words: &[String], desk: &mut D) -> Status
     // Each command has its promise.
     ensures list { (names : ListNames) → order_of (texts_of words.now) ≡ Some (list names)
         → ListPromise names (D.state desk.old) (D.state desk.new) result }
-    ensures solve { (names : SolveNames) → order_of (texts_of words.now) ≡ Some (solve names)
+    ensures solve { (names : DocumentNames) → order_of (texts_of words.now) ≡ Some (solve names)
         → SolvePromise names (D.state desk.old) (D.state desk.new) result }
+    ensures check { (names : DocumentNames) → order_of (texts_of words.now) ≡ Some (check names)
+        → CheckPromise names (D.state desk.old) (D.state desk.new) result }
 {
     match orders::read_order(words) {
         Some(orders::Order::List(names)) => list::list(alloc, &names, desk),
         Some(orders::Order::Solve(names)) => solve::solve(alloc, &names, desk),
+        Some(orders::Order::Check(names)) => check::check(alloc, &names, desk),
         None => Status::Words,
     }
 }

@@ -1,13 +1,11 @@
 //! The command `list`: reads a text of spectra and reports for each the formulas of its precursor and its selected
 //! peaks.
-ghost use Rattle.std.specs.Prelude.{◌≡◌, ◌≢◌, ◌++◌, List, ℕ, None, false, take, IfSome, IfErr, OnOk, OnErr};
+ghost use Rattle.std.specs.Prelude.{◌≡◌, ◌≢◌, ◌++◌, List, None, false, IfSome};
 ghost use Rattle.frag_io.specs.declared.desk.Slot.{Slot};
-ghost use Rattle.frag_io.specs.declared.desk.Slot.TheVariants.{Report};
 ghost use Rattle.frag_io.specs.DeskState.{DeskState};
-ghost use Rattle.frag_io.specs.Desk.{appended};
 ghost use Rattle.fragment_run.specs.Begins.{Begin};
 ghost use Rattle.fragment_run.specs.Causes.{IsUnwritten};
-ghost use Rattle.fragment_run.specs.Class.{class_of, ended, IsOfProfile};
+ghost use Rattle.fragment_run.specs.Class.{class_of, IsOfProfile};
 ghost use Rattle.fragment_run.specs.Limits.{AreReadWhole};
 ghost use Rattle.fragment_run.specs.Orders.{begins_of, list, text_begins};
 ghost use Rattle.fragment_run.specs.ProfilePromise.{OnlyProfile, ProfilePromise};
@@ -16,7 +14,6 @@ ghost use Rattle.fragment_run.specs.TextPromise.{OwesText};
 ghost use Rattle.fragment_run.specs.inside.NamesOf.{names_of};
 ghost use Rattle.fragment_run.specs.inside.Running.{Ends, IsUnfinished, Runs, status_of};
 ghost use Rattle.fragment_run.specs.inside.SettingsOf.{settings_value_of};
-ghost use Rattle.fragment_run.specs.inside.TextSteps.{HasOutputs, IsWriteStop};
 ghost use Rattle.fragment_run.specs.list.ListPromise.{ListPromise, list_meaning};
 
 mod report;
@@ -27,11 +24,10 @@ use crate::orders::ListNames;
 use crate::profile_text::take_profile;
 use crate::settings::{RunSettings, choice_of, fragment_rules_of};
 use crate::status::Status;
-use crate::steps::{finish_slot, write_slot};
-use crate::text_steps::read_spectra;
+use crate::text_steps::{read_spectra, write_report};
 use adducts::Adduct;
 use element_table::Formula;
-use frag_io::{Desk, Slot};
+use frag_io::Desk;
 use profile::Profile;
 use std::alloc::Global;
 use valence_filter::{Sieve, all_hold};
@@ -111,23 +107,4 @@ fn list_steps<D: Desk>(
         None => Ok(()),
         Some(fault) => Err(Status::MgfRefused(fault)),
     }
-}
-
-/// Writes the report and finishes it.
-fn write_report<D: Desk>(alloc: Global, desk: &mut D, report: &[u8]) -> Result<(), Status>
-    requires begun { HasOutputs None (D.state desk.old) }
-    requires unfinished { (D.state desk.old).finished Report ≡ false }
-    ensures all { OnOk result
-        ((D.state desk.new).written Report ≡ appended ((D.state desk.old).written Report) report.now) }
-    ensures part { OnErr result ((n : ℕ)
-        × ((D.state desk.new).written Report ≡ appended ((D.state desk.old).written Report) (take n report.now))) }
-    ensures stop { IfErr result (λ status. IsWriteStop (class_of status)) }
-    ensures ended { (order : List Begin) (before : DeskState) → Runs order before (D.state desk.old)
-        → AreReadWhole order before (D.state desk.old)
-        → OnOk result ((status : Status) → class_of status ≡ ended → Ends order before (D.state desk.new) status) }
-    ensures ends { (order : List Begin) (before : DeskState) → Runs order before (D.state desk.old)
-        → IfErr result (Ends order before (D.state desk.new)) }
-{
-    write_slot(alloc, desk, Slot::Report, report)?;
-    finish_slot(desk, Slot::Report)
 }

@@ -1,9 +1,9 @@
 //! The orders that words give: the commands, their options and what they name.
 ghost use Rattle.std.specs.Prelude.{◌≡◌, ◌∷◌, IfSome, MatchOption, Some, None, option_map};
 ghost use Rattle.std.specs.Option.{option_and_then, option_copied};
-ghost use Rattle.fragment_run.specs.Orders.{adduct_by, has_own_document, list, list_options, list_order_of, order_of, solve, solve_options, solve_order_of, text_names_of};
+ghost use Rattle.fragment_run.specs.Orders.{adduct_by, document_names_in, document_options, has_own_document, list, list_options, list_order_of, order_of, solve, solve_order_of, text_names_of};
 ghost use Rattle.fragment_run.specs.Words.{form_of, options_of, texts_of};
-ghost use Rattle.fragment_run.specs.inside.NamesOf.{names_of, order_read, solve_names_of};
+ghost use Rattle.fragment_run.specs.inside.NamesOf.{document_names_of, names_of, order_read};
 ghost use Rattle.fragment_run.specs.inside.Words.{rows_of};
 
 use crate::words::{Need, OptionRow, is_of_form, value_of};
@@ -17,9 +17,9 @@ pub struct ListNames<'a> {
     pub adduct: Adduct,
 }
 
-/// What a solving is asked for: the name of its document beside these.
+/// What a solving or a check is asked for: the name of its document beside these.
 #[derive(Clone, Copy)]
-pub struct SolveNames<'a> {
+pub struct DocumentNames<'a> {
     pub spectra: &'a str,
     pub document: &'a str,
     pub profile: Option<&'a str>,
@@ -30,7 +30,8 @@ pub struct SolveNames<'a> {
 #[derive(Clone, Copy)]
 pub enum Order<'a> {
     List(ListNames<'a>),
-    Solve(SolveNames<'a>),
+    Solve(DocumentNames<'a>),
+    Check(DocumentNames<'a>),
 }
 
 /// The options of a list.
@@ -49,8 +50,8 @@ const LIST_OPTIONS: [OptionRow; 3] = [
     },
 ];
 
-/// The options of a solving.
-const SOLVE_OPTIONS: [OptionRow; 4] = [
+/// The options of a solving, and of a check.
+const DOCUMENT_OPTIONS: [OptionRow; 4] = [
     OptionRow {
         name: "--cert",
         need: Need::Required,
@@ -95,6 +96,11 @@ fn command_order<'a>(command: &str, words: &'a [String]) -> Option<Order<'a>>
             Some(names) => Some(Order::Solve(names)),
             None => None,
         }
+    } else if command == "check" {
+        match document_names(words) {
+            Some(names) => Some(Order::Check(names)),
+            None => None,
+        }
     } else {
         None
     }
@@ -116,12 +122,28 @@ fn list_names(words: &[String]) -> Option<ListNames<'_>>
 
 /// What a solving with these options is asked for. `None` where the words have another form, name no adduct of the
 /// table, or name the document as the text or the profile.
-fn solve_names(words: &[String]) -> Option<SolveNames<'_>>
-    ensures { MatchOption result (option_and_then solve_order_of (form_of solve_options (texts_of words.now)) ≡ None)
-        (λ names. option_and_then solve_order_of (form_of solve_options (texts_of words.now))
-        ≡ Some (solve (solve_names_of names))) }
+fn solve_names(words: &[String]) -> Option<DocumentNames<'_>>
+    ensures { MatchOption result (option_and_then solve_order_of (form_of document_options (texts_of words.now)) ≡ None)
+        (λ names. option_and_then solve_order_of (form_of document_options (texts_of words.now))
+        ≡ Some (solve (document_names_of names))) }
 {
-    let table = SOLVE_OPTIONS;
+    let Some(names) = document_names(words) else {
+        return None;
+    };
+    if is_own_document(&names) {
+        Some(names)
+    } else {
+        None
+    }
+}
+
+/// What a command on a text and a document is asked for with these options. `None` where the words have another form,
+/// or name no adduct of the table.
+fn document_names(words: &[String]) -> Option<DocumentNames<'_>>
+    ensures { option_and_then document_names_in (form_of document_options (texts_of words.now))
+        ≡ option_map document_names_of result }
+{
+    let table = DOCUMENT_OPTIONS;
     if !is_of_form(&table, words) {
         return None;
     }
@@ -131,22 +153,17 @@ fn solve_names(words: &[String]) -> Option<SolveNames<'_>>
     let Some(document) = value_of(&table, words, "--cert") else {
         return None;
     };
-    let names = SolveNames {
+    Some(DocumentNames {
         spectra: given.spectra,
         document,
         profile: given.profile,
         adduct: given.adduct,
-    };
-    if is_own_document(&names) {
-        Some(names)
-    } else {
-        None
-    }
+    })
 }
 
 /// Whether a document is named neither as the text nor as the profile.
-fn is_own_document(names: &SolveNames) -> bool
-    ensures { result ≡ has_own_document (solve_names_of names.now) }
+fn is_own_document(names: &DocumentNames) -> bool
+    ensures { result ≡ has_own_document (document_names_of names.now) }
 {
     let apart = match names.profile {
         Some(profile) => names.document != profile,
@@ -243,8 +260,44 @@ mod tests {
         ),
     ];
 
+    /// Words with a space between, which order a check, and its names and adduct.
+    const CHECKS: [(&str, &str, &str, Option<&str>, &str); 8] = [
+        ("check --in a --cert b", "a", "b", None, "[M+H]+"),
+        ("check --cert=b --in=a", "a", "b", None, "[M+H]+"),
+        ("check --in a --cert a", "a", "a", None, "[M+H]+"),
+        ("check --cert= --in=", "", "", None, "[M+H]+"),
+        (
+            "check --cert p --in a --profile p",
+            "a",
+            "p",
+            Some("p"),
+            "[M+H]+",
+        ),
+        (
+            "check --cert=a --in a --profile=a",
+            "a",
+            "a",
+            Some("a"),
+            "[M+H]+",
+        ),
+        (
+            "check --profile p --cert b --in a",
+            "a",
+            "b",
+            Some("p"),
+            "[M+H]+",
+        ),
+        (
+            "check --adduct [M+Cl]- --in=-a --cert=-b",
+            "-a",
+            "-b",
+            None,
+            "[M+Cl]-",
+        ),
+    ];
+
     /// Words with a space between, which are no order.
-    const NO_ORDERS: [&str; 46] = [
+    const NO_ORDERS: [&str; 61] = [
         "",
         "list",
         "list --in",
@@ -289,6 +342,21 @@ mod tests {
         "solve --in a --cert b --number 1",
         "solve --help",
         "Solve --in a --cert b",
+        "check",
+        "check --in a",
+        "check --cert b",
+        "check --in a --cert",
+        "check --in --cert b",
+        "check --in a --cert -b",
+        "check --in a --cert b --cert b",
+        "check --in a --in a --cert b",
+        "check --in a --cert b --profile p --profile p",
+        "check --in a --cert b --profile",
+        "check --in a --cert b --adduct [M+H]+ --adduct [M+H]+",
+        "check --in a --cert b --adduct [M+2H]2+",
+        "check --in a --cert b --json",
+        "check --in a --cert b c",
+        "check --help",
         "trial --number 5",
         "--in a list",
     ];
@@ -320,6 +388,21 @@ mod tests {
         for (line, spectra, document, profile, adduct) in SOLVINGS {
             let words = words_of(rt.alloc(), line)?;
             let Some(Order::Solve(names)) = read_order(&words) else {
+                return Err(Fail::new("no order"));
+            };
+            assert_eq!(rt; names.spectra, spectra);
+            assert_eq!(rt; names.document, document);
+            assert_eq!(rt; names.profile, profile);
+            assert_eq!(rt; Some(names.adduct), by_name(adduct));
+        }
+        Ok(())
+    }
+
+    #[test]
+    fn words_order_a_check(rt: HostRuntime) -> Result<(), Fail> {
+        for (line, spectra, document, profile, adduct) in CHECKS {
+            let words = words_of(rt.alloc(), line)?;
+            let Some(Order::Check(names)) = read_order(&words) else {
                 return Err(Fail::new("no order"));
             };
             assert_eq!(rt; names.spectra, spectra);

@@ -7,6 +7,7 @@ ghost use Rattle.loss_graph.specs.Lists.{IsList};
 ghost use Rattle.mgf_reader.specs.Spectrum.{PeakValue};
 ghost use Rattle.fragment_run.specs.Outline.{IsOutline, explained};
 ghost use Rattle.fragment_run.specs.RunSettings.{has_too_many, list_at, window_at};
+ghost use Rattle.fragment_run.specs.inside.GoodLines.{HasGoodReason};
 ghost use Rattle.fragment_run.specs.inside.Outlines.{HasOwnLists, outline_of};
 ghost use Rattle.fragment_run.specs.inside.SettingsOf.{settings_value_of};
 
@@ -35,7 +36,10 @@ pub fn read_outline(
     ensures outline { IfOk result (λ outline. IsOutline (settings_value_of settings.now) spectrum.now.peaks
         (fit_of spectrum.now (settings_value_of settings.now).choice) (outline_of outline)) }
     ensures lists { IfOk result (λ outline. HasOwnLists settings.now.choice (outline_of outline)) }
+    ensures reason { IfOk result (λ outline. HasGoodReason (outline_of outline)) }
 {
+    // tells that the precursor was measured, for the proof; nothing is done
+    let _precursor = spectrum.precursor;
     match fit(spectrum, &settings.choice) {
         Fit::NoPrecursor => Ok(Outline::Skipped(Skip::NoPrecursor)),
         Fit::Charge => Ok(Outline::Skipped(Skip::Charge)),
@@ -62,6 +66,7 @@ fn explain(
     ensures explained { IfOk result (λ outline. outline_of outline
         ≡ explained (settings_value_of settings.now) precursor selected.now) }
     ensures lists { IfOk result (λ outline. HasOwnLists settings.now.choice (outline_of outline)) }
+    ensures reason { IfOk result (λ outline. HasGoodReason (outline_of outline)) }
 {
     let mut lists = Vec::new(alloc);
     if !add_list(alloc, &mut lists, settings, precursor, 0)? {

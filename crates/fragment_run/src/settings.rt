@@ -1,7 +1,9 @@
 //! What lists and trees are made under.
-ghost use Rattle.std.specs.Prelude.{◌≡◌, ◌∷◌, IfOk};
+ghost use Rattle.std.specs.Prelude.{◌≡◌, ◌≤◌, ◌∷◌, IfOk};
 ghost use Rattle.element_table.specs.Rule.{neutral_rule_of};
 ghost use Rattle.fragment_run.specs.RunSettings.{run_settings_of};
+ghost use Rattle.fragment_run.specs.SolveSettings.{solve_settings_of};
+ghost use Rattle.fragment_run.specs.inside.SettingsOf.{solve_settings_value_of};
 
 use adducts::{Adduct, Choice};
 use profile::{Limits, Profile};
@@ -25,6 +27,29 @@ pub struct SolveSettings<'a> {
     pub listing: RunSettings,
     pub candidate_rules: Vec<Rule>,
     pub scores: &'a Scores,
+}
+
+/// What trees are found under by a profile, for ions of an adduct.
+pub fn solve_settings(
+    profile: &Profile,
+    adduct: Adduct,
+    sieve: Sieve,
+    candidate_rules: Vec<Rule>,
+) -> SolveSettings<'_>
+    requires fragments { sieve.rules.items ≡ (run_settings_of profile.now adduct).rules }
+    requires candidates { candidate_rules.items ≡ neutral_rule_of ∷ profile.now.neutral_rules }
+    ensures value { solve_settings_value_of result ≡ solve_settings_of profile.now adduct }
+    ensures peaks { result.listing.choice.peaks ≤ 12 }
+{
+    SolveSettings {
+        listing: RunSettings {
+            choice: choice_of(profile, adduct),
+            limits: profile.limits,
+            sieve,
+        },
+        candidate_rules,
+        scores: &profile.scores,
+    }
 }
 
 /// The choice that a profile makes for an adduct.

@@ -9,31 +9,28 @@ ghost use Rattle.fragment_run.specs.Begins.{Begin};
 ghost use Rattle.fragment_run.specs.Causes.{IsUnwritten};
 ghost use Rattle.fragment_run.specs.Class.{class_of, ended, IsOfProfile};
 ghost use Rattle.fragment_run.specs.Limits.{AreReadWhole};
-ghost use Rattle.fragment_run.specs.Orders.{begins_of, solve, text_begins};
+ghost use Rattle.fragment_run.specs.Orders.{begins_of, solve, text_begins, written_begin};
 ghost use Rattle.fragment_run.specs.ProfilePromise.{OnlyProfile, ProfilePromise};
 ghost use Rattle.fragment_run.specs.SolveSettings.{solve_settings_of};
 ghost use Rattle.fragment_run.specs.TextPromise.{OwesText};
-ghost use Rattle.fragment_run.specs.inside.NamesOf.{solve_names_of};
+ghost use Rattle.fragment_run.specs.inside.NamesOf.{document_names_of};
 ghost use Rattle.fragment_run.specs.inside.Running.{Ends, IsUnfinished, Runs, status_of};
 ghost use Rattle.fragment_run.specs.inside.SettingsOf.{solve_settings_value_of};
-ghost use Rattle.fragment_run.specs.inside.TextSteps.{ArePartlyWritten, HasOutputs, IsWriteStop};
+ghost use Rattle.fragment_run.specs.inside.TextSteps.{ArePartlyWritten, IsWriteStop};
 ghost use Rattle.fragment_run.specs.solve.SolvePromise.{SolvePromise, solve_meaning};
 
-mod candidates;
 mod document;
 mod entry;
 mod rows;
 mod section;
 
-use crate::orders::SolveNames;
+use crate::orders::DocumentNames;
 use crate::profile_text::take_profile;
-use crate::settings::{
-    RunSettings, SolveSettings, candidate_rules_of, choice_of, fragment_rules_of,
-};
+use crate::settings::{SolveSettings, candidate_rules_of, fragment_rules_of, solve_settings};
 use crate::solve::document::{Solution, solve_text};
 use crate::status::Status;
 use crate::steps::{finish_slot, write_slot};
-use crate::text_steps::read_spectra;
+use crate::text_steps::{DocumentSlot, read_spectra};
 use element_table::Formula;
 use frag_io::{Desk, Slot};
 use profile::Profile;
@@ -43,11 +40,12 @@ use valence_filter::{Sieve, all_hold};
 
 /// Solves the text that a name gives into the document of another name, under the profile that is named, for ions of
 /// the adduct.
-pub fn solve<D: Desk>(alloc: Global, names: &SolveNames, desk: &mut D) -> Status
+pub fn solve<D: Desk>(alloc: Global, names: &DocumentNames, desk: &mut D) -> Status
     requires { (slot : Slot) → (D.state desk.old).begun slot ≡ false }
-    ensures ends { Ends (begins_of (solve (solve_names_of names.now))) (D.state desk.old) (D.state desk.new) result }
-    ensures profile { ProfilePromise (solve_names_of names.now).profile (D.state desk.old) (D.state desk.new) result }
-    ensures promise { SolvePromise (solve_names_of names.now) (D.state desk.old) (D.state desk.new) result }
+    ensures ends { Ends (begins_of (solve (document_names_of names.now))) (D.state desk.old) (D.state desk.new) result }
+    ensures profile { ProfilePromise (document_names_of names.now).profile (D.state desk.old) (D.state desk.new)
+        result }
+    ensures promise { SolvePromise (document_names_of names.now) (D.state desk.old) (D.state desk.new) result }
     ensures an_order { result ≢ Status.Words }
 {
     let profile = match take_profile(alloc, names.profile, desk) {
@@ -63,7 +61,7 @@ pub fn solve<D: Desk>(alloc: Global, names: &SolveNames, desk: &mut D) -> Status
 /// Solves under a profile.
 fn solve_under<D: Desk>(
     alloc: Global,
-    names: &SolveNames,
+    names: &DocumentNames,
     profile: &Profile,
     desk: &mut D,
 ) -> Result<(), Status>
@@ -72,8 +70,8 @@ fn solve_under<D: Desk>(
     requires unwritten { IsUnwritten (D.state desk.old) }
     ensures ends { (done : List Begin) (before : DeskState) → Runs done before (D.state desk.old)
         → AreReadWhole done before (D.state desk.old)
-        → Ends (done ++ text_begins names.now.spectra.now (Some names.now.document.now)) before (D.state desk.new)
-        (status_of result) }
+        → Ends (done ++ text_begins names.now.spectra.now (Some (written_begin names.now.document.now))) before
+        (D.state desk.new) (status_of result) }
     ensures text { IfSome ((D.state desk.old).gives names.now.spectra.now) (λ text.
         OwesText (solve_meaning (solve_settings_of profile.now names.now.adduct) text) text (D.state desk.new)
         (status_of result)) }
@@ -86,15 +84,12 @@ fn solve_under<D: Desk>(
     let Ok(test) = Box::new(alloc, move |formula: &Formula| all_hold(&kept, formula)) else {
         return Err(Status::Memory);
     };
-    let settings = SolveSettings {
-        listing: RunSettings {
-            choice: choice_of(profile, names.adduct),
-            limits: profile.limits,
-            sieve: Sieve::new(rules, test),
-        },
+    let settings = solve_settings(
+        profile,
+        names.adduct,
+        Sieve::new(rules, test),
         candidate_rules,
-        scores: &profile.scores,
-    };
+    );
     solve_steps(alloc, names.spectra, names.document, &settings, desk)
 }
 
@@ -112,7 +107,8 @@ fn solve_steps<D: Desk>(
     requires unwritten { IsUnwritten (D.state desk.old) }
     ensures ends { (done : List Begin) (before : DeskState) → Runs done before (D.state desk.old)
         → AreReadWhole done before (D.state desk.old)
-        → Ends (done ++ text_begins name.now (Some document.now)) before (D.state desk.new) (status_of result) }
+        → Ends (done ++ text_begins name.now (Some (written_begin document.now))) before (D.state desk.new)
+        (status_of result) }
     ensures text { IfSome ((D.state desk.old).gives name.now) (λ text.
         OwesText (solve_meaning (solve_settings_value_of settings.now) text) text (D.state desk.new)
         (status_of result)) }
@@ -120,7 +116,12 @@ fn solve_steps<D: Desk>(
     ensures an_order { status_of result ≢ Status.Words }
 {
     parts_make_the_spelling();
-    let text = read_spectra(alloc, name, Some(document), desk)?;
+    let slot = Slot::CertOut;
+    let named = Some(DocumentSlot {
+        slot,
+        name: document,
+    });
+    let text = read_spectra(alloc, name, named, desk)?;
     let solution = solve_text(alloc, &text, settings)?;
     write_outputs(alloc, desk, &solution.document, &solution.report)?;
     match solution.fault {

@@ -1,14 +1,16 @@
 //! How a run ended: the status, its code and the line that tells it.
-ghost use Rattle.std.specs.Prelude.{◌≡◌, ◌++◌, IfOk, OnOk, codes};
+ghost use Rattle.std.specs.Prelude.{◌≡◌, ◌++◌, IfOk, OnOk, codes, decimal};
 ghost use Rattle.tree_certificate.specs.Title.{escaped};
 ghost use Rattle.fragment_run.specs.declared.status.Status.TheVariants.{Memory};
-ghost use Rattle.fragment_run.specs.Status.{code_of, fault_line, refusal_text, slot_name_of};
+ghost use Rattle.fragment_run.specs.Status.{code_of, fault_line, part_text, refusal_text, slot_name_of};
+ghost use Rattle.fragment_run.specs.inside.Numbered.{number_text};
 
+use crate::reject::{RejectPart, RejectPlace};
 use frag_io::Slot;
 use mgf_reader::MgfFault;
 use profile::{Name, ProfileFault};
 use std::alloc::{AllocError, Global};
-use tree_certificate::push_escaped;
+use tree_certificate::{CertFault, push_escaped};
 
 /// How a run ended.
 #[derive(Debug, Drop)]
@@ -31,6 +33,10 @@ pub enum Status {
     MgfRefused(MgfFault),
     /// The profile is refused, never for want of memory.
     ProfileRefused(ProfileFault),
+    /// The bytes of the document are refused, never for want of memory.
+    DocumentRefused(CertFault),
+    /// The document differs from the right ones of the text, here first.
+    DocumentRejected(RejectPlace),
 }
 
 impl From<AllocError> for Status {
@@ -56,6 +62,8 @@ impl Status {
             Status::WriteFault(_) => 7,
             Status::OpenFault(_) => 8,
             Status::TooLong(_) => 9,
+            Status::DocumentRefused(_) => 10,
+            Status::DocumentRejected(_) => 11,
         }
     }
 }
@@ -74,6 +82,8 @@ pub fn fault_text(alloc: Global, status: &Status) -> Result<Vec<u8>, AllocError>
         Status::TooLong(slot) => line(alloc, "too long: ", slot_name(*slot)),
         Status::MgfRefused(fault) => refusal(alloc, fault),
         Status::ProfileRefused(fault) => profile_refusal(alloc, fault),
+        Status::DocumentRefused(fault) => document_refusal(alloc, *fault),
+        Status::DocumentRejected(place) => rejection(alloc, *place),
     }
 }
 
@@ -127,6 +137,64 @@ fn push_named(line: &mut Vec<u8>, words: &[u8], name: &Name) -> Result<(), Alloc
 {
     line.extend_from_slice(words)?;
     push_escaped(line, name.items())
+}
+
+/// The line that tells why the bytes of a document are refused.
+fn document_refusal(alloc: Global, fault: CertFault) -> Result<Vec<u8>, AllocError>
+    ensures { IfOk result (λ line. line.items ≡ fault_line (Status.DocumentRefused fault)) }
+{
+    match fault {
+        CertFault::BadLine(number) => numbered(alloc, "document: line ", number, ": bad line\n"),
+        CertFault::TooBig(number) => numbered(alloc, "document: line ", number, ": too big\n"),
+        CertFault::Truncated => line(alloc, "document: truncated", ""),
+        CertFault::OutOfMemory => line(alloc, "document: no memory", ""),
+    }
+}
+
+/// The line that tells where a document differs first from the right ones.
+fn rejection(alloc: Global, place: RejectPlace) -> Result<Vec<u8>, AllocError>
+    ensures { IfOk result (λ line. line.items ≡ fault_line (Status.DocumentRejected place)) }
+{
+    let mut line = numbered(alloc, "rejected: section ", place.section, ": ")?;
+    let (words, number) = part_words(place.part);
+    line.extend_from_slice(words.as_bytes())?;
+    if let Some(number) = number {
+        let digits = number.to_string(alloc)?;
+        line.extend_from_slice(digits.as_bytes())?;
+    }
+    line.extend_from_slice(b"\n")?;
+    Ok(line)
+}
+
+/// The words of a part, and the number behind them, where it keeps one.
+fn part_words(part: RejectPart) -> (&'static str, Option<u32>)
+    ensures { part_text part ≡ result.0.now ++ number_text result.1 }
+{
+    match part {
+        RejectPart::Missing => ("missing", None),
+        RejectPart::Extra => ("extra", None),
+        RejectPart::Spectrum => ("spectrum", None),
+        RejectPart::Skipped => ("skip", None),
+        RejectPart::Lists(number) => ("list ", Some(number)),
+        RejectPart::Candidates => ("candidates", None),
+        RejectPart::Error(number) => ("error ", Some(number)),
+        RejectPart::Outcome(number) => ("outcome ", Some(number)),
+        RejectPart::Tree(number, _) => ("tree ", Some(number)),
+        RejectPart::Order(number) => ("order ", Some(number)),
+        RejectPart::Ending => ("ending", None),
+    }
+}
+
+/// A number with words before and behind it.
+fn numbered(alloc: Global, before: &str, number: u32, behind: &str) -> Result<Vec<u8>, AllocError>
+    ensures { IfOk result (λ line. line.items ≡ before.now ++ decimal number ++ behind.now) }
+{
+    let digits = number.to_string(alloc)?;
+    let mut line = Vec::new(alloc);
+    line.extend_from_slice(before.as_bytes())?;
+    line.extend_from_slice(digits.as_bytes())?;
+    line.extend_from_slice(behind.as_bytes())?;
+    Ok(line)
 }
 
 /// A line of two parts.

@@ -1,37 +1,43 @@
 //! Whole runs over a desk in memory.
 ghost use Rattle.std.specs.Prelude.{◌<◌};
 
-use crate::{Status, fault_text, run};
+use crate::{
+    RejectPart, RejectPlace, Status, a_rejected_document_is_not_right, a_spectrum_has_one_outline,
+    fault_text, run, what_is_accepted_is_nothing_else,
+};
+use certificate_checker::{EntryPlace, Place};
 use frag_io::{CallKind, Failing, MemoryDesk, Slot};
 use mgf_reader::{MgfFault, MgfKind};
 use profile::{Name, ProfileFault};
 use std::alloc::{AllocError, Global};
 use std::process::Abort;
 use std::test::Fail;
+use tree_certificate::CertFault;
 
 const WATER: &[u8] = b"BEGIN IONS\nPEPMASS=19.0178410\nEND IONS\n";
 
 const WATER_LIST: &[u8] = b"spectrum 1 \nlists 1\nlist 190178410 0 1\nf H2O\ndone\nend clean\n";
 
 /// A profile with carbon, hydrogen and oxygen alone.
-const SUGARS: &[u8] = b"[elements]\nC = 100\nH = 200\nO = 40\n";
+pub(crate) const SUGARS: &[u8] = b"[elements]\nC = 100\nH = 200\nO = 40\n";
 
 /// How a run ended, its code and the line that tells it, what it left in the report and in the document, and how many
-/// faults of each slot were counted.
+/// faults of each slot were counted: of the document that it wrote, and of the one that it read.
 #[derive(Drop)]
-struct Outcome {
-    code: u8,
-    line: Vec<u8>,
-    report: Vec<u8>,
-    document: Vec<u8>,
-    spectra_faults: u64,
-    profile_faults: u64,
-    report_faults: u64,
-    document_faults: u64,
+pub(crate) struct Outcome {
+    pub code: u8,
+    pub line: Vec<u8>,
+    pub report: Vec<u8>,
+    pub document: Vec<u8>,
+    pub spectra_faults: u64,
+    pub profile_faults: u64,
+    pub report_faults: u64,
+    pub document_faults: u64,
+    pub given_faults: u64,
 }
 
 /// Runs words, with a space between, over a desk with a file `a` of one text and a file `p` of another.
-fn run_words(
+pub(crate) fn run_words(
     alloc: Global,
     words: &str,
     text: &[u8],
@@ -41,9 +47,23 @@ fn run_words(
 ) -> Result<Outcome, AllocError>
     requires { 0 < piece }
 {
+    run_files(alloc, words, [text, profile, b""], failing, piece)
+}
+
+/// Runs words, with a space between, over a desk with files `a`, `p` and `d` of these texts.
+pub(crate) fn run_files(
+    alloc: Global,
+    words: &str,
+    texts: [&[u8]; 3],
+    failing: Option<Failing>,
+    piece: usize,
+) -> Result<Outcome, AllocError>
+    requires { 0 < piece }
+{
     let mut files = Vec::new(alloc);
-    files.push((String::from_str(alloc, "a")?, text.to_vec(alloc)?))?;
-    files.push((String::from_str(alloc, "p")?, profile.to_vec(alloc)?))?;
+    for (name, text) in ["a", "p", "d"].into_iter().zip(texts) {
+        files.push((String::from_str(alloc, name)?, text.to_vec(alloc)?))?;
+    }
     let mut fails = Vec::new(alloc);
     if let Some(call) = failing {
         fails.push(call)?;
@@ -63,6 +83,7 @@ fn run_words(
         profile_faults: desk.faults(Slot::Profile),
         report_faults: desk.faults(Slot::Report),
         document_faults: desk.faults(Slot::CertOut),
+        given_faults: desk.faults(Slot::CertIn),
     })
 }
 
@@ -554,9 +575,72 @@ fn each_status_has_its_code_and_line(rt: HostRuntime) -> Result<(), Fail> {
             4,
             "mgf: line 100002: too-many-peaks\n",
         ),
+        (Status::TooLong(Slot::CertIn), 9, "too long: cert-in\n"),
+        (
+            Status::DocumentRefused(CertFault::BadLine(7)),
+            10,
+            "document: line 7: bad line\n",
+        ),
+        (
+            Status::DocumentRefused(CertFault::TooBig(4_294_967_295)),
+            10,
+            "document: line 4294967295: too big\n",
+        ),
+        (
+            Status::DocumentRefused(CertFault::Truncated),
+            10,
+            "document: truncated\n",
+        ),
     ] {
         assert_eq!(rt; status.code(), code);
         assert_eq!(rt; fault_text(alloc, &status)?.as_slice(), line.as_bytes());
     }
     Ok(())
+}
+
+#[test]
+fn each_rejection_has_its_line(rt: HostRuntime) -> Result<(), Fail> {
+    let alloc = rt.alloc();
+    let wrong = EntryPlace::Cert(Place::TableTotal(-7));
+    for (section, part, line) in [
+        (1, RejectPart::Missing, "rejected: section 1: missing\n"),
+        (2, RejectPart::Extra, "rejected: section 2: extra\n"),
+        (3, RejectPart::Spectrum, "rejected: section 3: spectrum\n"),
+        (4, RejectPart::Skipped, "rejected: section 4: skip\n"),
+        (5, RejectPart::Lists(0), "rejected: section 5: list 0\n"),
+        (
+            6,
+            RejectPart::Candidates,
+            "rejected: section 6: candidates\n",
+        ),
+        (7, RejectPart::Error(1), "rejected: section 7: error 1\n"),
+        (
+            8,
+            RejectPart::Outcome(20),
+            "rejected: section 8: outcome 20\n",
+        ),
+        (
+            9,
+            RejectPart::Tree(3, wrong),
+            "rejected: section 9: tree 3\n",
+        ),
+        (
+            4_294_967_295,
+            RejectPart::Order(20_000),
+            "rejected: section 4294967295: order 20000\n",
+        ),
+        (10, RejectPart::Ending, "rejected: section 10: ending\n"),
+    ] {
+        let status = Status::DocumentRejected(RejectPlace { section, part });
+        assert_eq!(rt; status.code(), 11);
+        assert_eq!(rt; fault_text(alloc, &status)?.as_slice(), line.as_bytes());
+    }
+    Ok(())
+}
+
+#[test]
+fn states_laws() {
+    a_spectrum_has_one_outline();
+    a_rejected_document_is_not_right();
+    what_is_accepted_is_nothing_else();
 }

@@ -1,3 +1,3 @@
 mod Fields
 mod Numbered
-mod Ranked
+pub mod Ranked

@@ -9,5 +9,5 @@ mod report;
 mod tests;
 
 pub use laws::ranked_entries_rise;
-pub use ranking::rank;
+pub use ranking::{compare_entries, rank};
 pub use report::{ending_text, push_ending, push_section, report_text, section_text};

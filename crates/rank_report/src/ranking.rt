@@ -15,12 +15,12 @@ pub fn rank(alloc: Global, entries: &mut Vec<Entry>) -> Result<(), AllocError>
 {
     entries
         .as_mut_slice()
-        .sort_by(alloc, |one, other| compare(one, other))?;
+        .sort_by(alloc, |one, other| compare_entries(one, other))?;
     Ok(())
 }
 
-/// How the ranks of two entries compare.
-fn compare(one: &Entry, other: &Entry) -> Ordering
+/// How the ranks of two entries compare: less where the first comes before.
+pub fn compare_entries(one: &Entry, other: &Entry) -> Ordering
     ensures { result ≡ rank_cmp one.now other.now }
 {
     compare_outcomes(&one.outcome, &other.outcome)

@@ -1,14 +1,12 @@
 -- An exact table holds with the score of a tree that reaches what the table says of the graph, and that tree is best.
-use Rattle.std.proofs.Common.{◌≡◌, ◌+◌, ◌-◌, ◌*◌, ◌^◌, ◌<◌, ◌≤◌, ℕ, ℤ, pos, ◌≤ℤ◌, Bool, true, IsTrue, List, [], ◌∷◌, length, get_or, replicate, ap, sym, subst, ◌∙◌, arith, mul-zero}
+use Rattle.std.proofs.Common.{◌≡◌, ◌-◌, ◌^◌, ℕ, ℤ, pos, ◌≤ℤ◌, true, IsTrue, List, ◌∷◌, length, get_or, ap, sym, ◌∙◌, arith, mul-zero}
 use Rattle.std.proofs.lemmas.Int.{ints}
 use Rattle.std.proofs.lemmas.List.{get_or-replicate}
 use Rattle.std.specs.List.{All}
-use Rattle.colour_graph.specs.Bounded.{IsBest, IsBounded}
-use Rattle.colour_graph.specs.Cap.{cap_of}
 use Rattle.colour_graph.specs.Colourful.{IsColourful, score_of}
 use Rattle.colour_graph.specs.EdgeSet.{all_edges, is_allowed}
 use Rattle.colour_graph.specs.Graph.{Graph, colour_count, colour_of}
-use Rattle.tree_certificate.specs.TableHolds.{IsHighAt, IsHighEnough, TableHolds, number_at, number_of, place_in, row_length, table_total}
+use Rattle.tree_certificate.specs.TableHolds.{TableHolds, number_at, number_of, table_total}
 use Rattle.subset_tree.specs.inside.Exact.{IsExact}
 
 same-le : (a b : ℤ) → a ≡ b → a ≤ℤ b

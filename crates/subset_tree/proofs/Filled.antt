@@ -1,20 +1,19 @@
 -- A row that is filled colour after colour, and a table that is filled row after row.
-use Rattle.std.proofs.Common.{◌≡◌, ◌≢◌, ◌⊎◌, inl, inr, ◌+◌, ◌-◌, ◌*◌, ◌^◌, ◌<◌, ◌≤◌, ◌↔◌, ℕ, zero, suc, ℤ, pos, negsuc, ◌+ℤ◌, ◌-ℤ◌, ◌≤ℤ◌, Bool, true, List, [], ◌∷◌, length, map, get_or, replicate, ap, sym, refl, subst, ◌∙◌, arith, pow-suc, pow_pos, mul-zero, get_or-set_other, get_or-set_same, slice_set}
+use Rattle.std.proofs.Common.{◌≡◌, ◌≢◌, ◌⊎◌, inl, inr, ◌+◌, ◌-◌, ◌*◌, ◌^◌, ◌<◌, ◌≤◌, ◌↔◌, ℕ, zero, suc, ℤ, pos, negsuc, ◌+ℤ◌, ◌-ℤ◌, ◌≤ℤ◌, Bool, true, List, [], ◌∷◌, length, map, get_or, replicate, ap, sym, refl, ◌∙◌, arith, pow-suc, pow_pos, mul-zero, get_or-set_other, get_or-set_same, slice_set}
 use Rattle.std.specs.List.{list_all}
 use Rattle.std.proofs.Math.ListN.{length-set}
 use Rattle.std.proofs.Math.Nat.{mul-lt-mul_of_pos_left}
 use Rattle.std.proofs.lemmas.Bool.{cases_eq, cases_lt, le-leb}
 use Rattle.std.proofs.lemmas.Int.{ints}
 use Rattle.std.proofs.lemmas.Nat.{pow-add}
-use Rattle.colour_graph.specs.declared.edge.Edge.{Edge}
 use Rattle.colour_graph.specs.Graph.{Graph, IsGraph, colour_count, colour_of, edge_at, head_colour}
 use Rattle.tree_certificate.specs.ColourSet.{IsPartOf, place_of, without}
 use Rattle.tree_certificate.specs.Number.{AreNumbers, greatest_number, is_near}
 use Rattle.tree_certificate.specs.TableHolds.{HasRow, IsHighEnough, number_of, row_at}
 use Rattle.subset_tree.specs.inside.Exact.{IsExact}
-use Rattle.subset_tree.specs.inside.Filling.{AreFilledFrom, AreGainsBefore, AreModest, IsEnough, IsEnoughBefore, IsFilledTo, IsHighTo, number_in, number_to}
+use Rattle.subset_tree.specs.inside.Filling.{AreFilledFrom, AreGainsBefore, AreModest, IsEnough, IsFilledTo, IsHighTo, number_in, number_to}
 use Rattle.subset_tree.proofs.Gaining.{edge-rises}
-use Rattle.subset_tree.proofs.Parts.{length-part, length-without, place-lt, place-without, powers-le}
+use Rattle.tree_certificate.proofs.SetParts.{length-part, length-without, place-lt, place-without, powers-le}
 
 zero_in : (n place : ℕ) → get_or (replicate n (pos 0)) place (pos 0) ≡ pos 0
 zero_in zero place = refl

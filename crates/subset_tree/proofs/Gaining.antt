@@ -1,15 +1,15 @@
 -- What the edges from a vertex into a colour gain, edge after edge.
-use Rattle.std.proofs.Common.{◌≡◌, ◌≢◌, ◌⊎◌, inl, inr, ◌+◌, ◌-◌, ◌*◌, ◌^◌, ◌<◌, ◌≤◌, ◌↔◌, ℕ, ℤ, pos, negsuc, ◌+ℤ◌, ◌≤ℤ◌, Bool, List, [], length, map, get_or, ap, sym, refl, subst, ◌∙◌, arith, rules, SFits, w32}
+use Rattle.std.proofs.Common.{◌≡◌, ◌⊎◌, inl, inr, ◌+◌, ◌-◌, ◌*◌, ◌^◌, ◌<◌, ◌≤◌, ◌↔◌, ℕ, ℤ, pos, negsuc, ◌+ℤ◌, ◌≤ℤ◌, Bool, List, [], length, map, get_or, ap, sym, subst, ◌∙◌, arith, rules, SFits, w32}
 use Rattle.std.proofs.lemmas.Bool.{cases_eq, cases_lt}
 use Rattle.std.proofs.lemmas.Int.{ints}
 use Rattle.std.proofs.lemmas.List.{get_or-map, get_or_past, length-map}
 use Rattle.colour_graph.specs.declared.edge.Edge.{Edge}
 use Rattle.colour_graph.specs.EdgeSet.{AreInto}
 use Rattle.colour_graph.specs.Graph.{Graph, HasColours, IsEdge, IsGraph, IsScore, colour_count, colour_of, edge_at, head_colour}
-use Rattle.tree_certificate.specs.ColourSet.{IsPartOf, place_of, without}
+use Rattle.tree_certificate.specs.ColourSet.{place_of}
 use Rattle.tree_certificate.specs.TableHolds.{HasRow, number_of, row_at}
 use Rattle.subset_tree.specs.inside.Filling.{AreFilledFrom, AreGains, AreGainsBefore, AreModest, IsEnoughBefore, IsRaised, number_in}
-use Rattle.subset_tree.proofs.Parts.{place-lt}
+use Rattle.tree_certificate.proofs.SetParts.{place-lt}
 
 -- a row of a table of vectors
 pub row_at-map : {X : Type 0} (items : X → List ℤ) (rows : List X) (vertex : ℕ) (row : X) → vertex < length rows → row ≡ get_or rows vertex row

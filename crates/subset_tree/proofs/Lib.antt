@@ -3,7 +3,6 @@ pub mod Filled
 pub mod Gaining
 mod Growing
 mod Owned
-pub mod Parts
 mod Passing
 mod Places
 mod Reaching

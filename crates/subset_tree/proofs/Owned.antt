@@ -1,5 +1,5 @@
 -- What vertices own after a part of one's colours was given to another, for reading a best list out of a table.
-use Rattle.std.proofs.Common.{◌≡◌, ◌≢◌, ◌⊎◌, inl, inr, ℕ, zero, suc, Bool, true, false, cond, not, ◌&&◌, eqb, IsTrue, List, [], ◌∷◌, length, replicate, ap, ap₂, sym, refl, ◌∙◌}
+use Rattle.std.proofs.Common.{◌≡◌, ◌≢◌, ◌⊎◌, inl, inr, ℕ, zero, suc, Bool, true, false, ◌&&◌, eqb, List, [], ◌∷◌, length, replicate, ap, ap₂, sym, refl, ◌∙◌}
 use Rattle.std.proofs.lemmas.Bool.{eq-eqb, eqb-true, ne_eqb}
 use Rattle.tree_certificate.specs.ColourSet.{IsPartOf, without}
 use Rattle.tree_certificate.proofs.Sums.{IsIn}

@@ -1,13 +1,12 @@
 -- Writes to the last elements of a list, for giving colours to another owner.
-use Rattle.std.proofs.Common.{◌≡◌, ◌+◌, ◌-◌, ◌^◌, ◌<◌, ◌≤◌, ℕ, suc, ℤ, Bool, List, [], ◌∷◌, ◌++◌, length, get_or, take, drop, ap, sym, subst, ◌∙◌, arith}
+use Rattle.std.proofs.Common.{◌≡◌, ◌+◌, ◌-◌, ◌^◌, ◌<◌, ◌≤◌, ℕ, ℤ, Bool, List, ◌∷◌, ◌++◌, length, get_or, take, drop, ap, sym, subst, ◌∙◌, arith}
 use Rattle.std.proofs.lemmas.List.{append-nil, drop_all, drop_at, drop_more, length-drop, length-take-le, take-append-drop, take_at, take_rest}
 use borrow.Rule.Slice.PartMut.{put_mid}
-use Rattle.colour_graph.specs.Graph.{Graph, IsGraph, colour_count, colour_of, edge_at}
+use Rattle.colour_graph.specs.Graph.{Graph, edge_at}
 use Rattle.tree_certificate.specs.ColourSet.{place_of}
 use Rattle.tree_certificate.proofs.Tables.{place-lt}
-use Rattle.subset_tree.specs.inside.Rebuilding.{IsChoice, IsLeftOut, IsStep, IsTaken, given, owned}
+use Rattle.subset_tree.specs.inside.Rebuilding.{IsChoice, IsStep, given, owned}
 use Rattle.subset_tree.proofs.Owned.{length-owned, length-part}
-use Rattle.subset_tree.proofs.Standing.{IsSeated, Standing}
 
 -- what stands from a place on
 abbrev pub rest_of : ℕ → List ℕ → List ℕ

@@ -1,5 +1,5 @@
 -- Places of sets of colours: parts of a set, and what bits say of them.
-use Rattle.std.proofs.Common.{slice_set, take, ◌++◌, add-one, pow-suc, subst, ◌≡◌, ◌≢◌, ◌⊎◌, inl, inr, ◌+◌, ◌-◌, ◌*◌, ◌/◌, ◌%◌, ◌^◌, ◌<◌, ◌≤◌, ℕ, zero, suc, Bool, true, false, eqb, bit_and, List, [], ◌∷◌, length, get_or, drop, ap, ap₂, sym, refl, ◌∙◌, arith, zero-add}
+use Rattle.std.proofs.Common.{slice_set, take, ◌++◌, add-one, pow-suc, ◌≡◌, ◌⊎◌, inl, inr, ◌+◌, ◌*◌, ◌/◌, ◌%◌, ◌^◌, ◌<◌, ◌≤◌, ℕ, zero, suc, Bool, true, false, bit_and, List, [], ◌∷◌, length, get_or, drop, ap, ap₂, sym, refl, ◌∙◌, arith}
 use Rattle.std.proofs.Math.Nat.{pow-le-pow_right}
 use Rattle.std.proofs.lemmas.Bool.{cases_eq, eq-eqb, false≢true, ne_eqb}
 use Rattle.std.proofs.lemmas.List.{drop_more}

@@ -1,5 +1,5 @@
 -- What edges and parts of sets reach in a table of exact numbers.
-use Rattle.std.proofs.Common.{◌≡◌, ◌+◌, ◌-◌, ◌*◌, ◌<◌, ◌≤◌, ℕ, suc, ℤ, pos, ◌+ℤ◌, ◌-ℤ◌, ◌≤ℤ◌, ◌<ℤ◌, Bool, true, List, ◌∷◌, length, ap, ap₂, sym, subst, ◌∙◌, arith}
+use Rattle.std.proofs.Common.{◌≡◌, ◌+◌, ◌-◌, ◌*◌, ◌<◌, ℕ, suc, ℤ, pos, ◌+ℤ◌, ◌-ℤ◌, ◌≤ℤ◌, ◌<ℤ◌, Bool, true, List, ◌∷◌, length, ap, ap₂, sym, subst, ◌∙◌, arith}
 use Rattle.std.proofs.lemmas.Int.{by_lt_z, ints}
 use Rattle.colour_graph.specs.declared.edge.Edge.{Edge}
 use Rattle.colour_graph.specs.Graph.{Graph, IsEdge, colour_count, colour_of, edge_at, head_colour}

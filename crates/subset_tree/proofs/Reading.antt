@@ -1,6 +1,6 @@
 -- Reading numbers of a table.
-use Rattle.std.proofs.Common.{Global, Vec, of_z, to_z, w64, ◌≡◌, ◌+◌, ◌-◌, ◌*◌, ◌^◌, ◌<◌, ◌≤◌, ℕ, zero, suc, ℤ, pos, negsuc, ◌≤ℤ◌, Bool, true, IsTrue, List, [], ◌∷◌, length, get_or, map, ap, ap₂, sym, refl, subst, ◌∙◌, arith, mul_comm, pow-suc}
-use Rattle.std.specs.Prelude.{nat_le, unsigned_abs}
+use Rattle.std.proofs.Common.{Global, Vec, of_z, to_z, w64, ◌≡◌, ◌+◌, ◌-◌, ◌*◌, ◌^◌, ◌<◌, ◌≤◌, ℕ, zero, suc, ℤ, pos, negsuc, ◌≤ℤ◌, Bool, true, List, [], ◌∷◌, length, get_or, map, ap, ap₂, sym, subst, ◌∙◌, arith, mul_comm, pow-suc}
+use Rattle.std.specs.Prelude.{unsigned_abs}
 use Rattle.std.specs.List.{list_all}
 use Rattle.std.proofs.lemmas.Bool.{and_parts, leb-true}
 use Rattle.std.proofs.lemmas.Int.{fits_signed_from_abs, ints, to_z-of_z}
@@ -9,7 +9,7 @@ use Rattle.std.proofs.lemmas.Nat.{shl_below}
 use Rattle.colour_graph.specs.Graph.{Graph, colour_count, colour_of}
 use Rattle.tree_certificate.specs.ColourSet.{place_of}
 use Rattle.tree_certificate.specs.Number.{AreNumbers, greatest_number, is_near}
-use Rattle.tree_certificate.specs.TableHolds.{FitsGraph, number_at, number_of, row_at, row_length}
+use Rattle.tree_certificate.specs.TableHolds.{FitsGraph, number_at, number_of, row_at}
 
 all_at : {X : Type 0} (test : X → Bool) (xs : List X) (i : ℕ) (d : X) → list_all test xs ≡ true → i < length xs → test (get_or xs i d) ≡ true
 all_at test [] i d all within = absurd (omega arith)

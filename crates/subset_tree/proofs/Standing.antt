@@ -1,6 +1,6 @@
 -- What stands while a best list of edges is read out of a table: the edges so far are colourful and rise, the owners are
 -- reached, and the score with the numbers of the reached vertices for what they own is what the table says of the graph.
-use Rattle.std.proofs.Common.{◌≡◌, ◌≢◌, ◌⊎◌, inl, inr, ◌+◌, ◌-◌, ◌<◌, ◌≤◌, ℕ, zero, suc, ℤ, pos, ◌+ℤ◌, Bool, true, false, eqb, List, [], ◌∷◌, ◌++◌, length, drop, get_or, map, replicate, ap, ap₂, sym, refl, subst, ◌∙◌, arith}
+use Rattle.std.proofs.Common.{◌≡◌, ◌≢◌, ◌⊎◌, inl, inr, ◌+◌, ◌<◌, ◌≤◌, ℕ, zero, suc, ℤ, pos, ◌+ℤ◌, Bool, true, List, [], ◌∷◌, ◌++◌, length, drop, get_or, replicate, ap, ap₂, sym, refl, subst, ◌∙◌, arith}
 use Rattle.std.proofs.lemmas.Bool.{cases_eq, cases_order, eq-eqb, ne_eqb}
 use Rattle.std.proofs.lemmas.Int.{ints}
 use Rattle.std.proofs.lemmas.List.{drop_all, drop_more, length-append, length-drop, length-replicate, map-append}
@@ -10,13 +10,13 @@ use Rattle.std.specs.List.{All, AllPairs}
 use Rattle.colour_graph.specs.declared.edge.Edge.{Edge}
 use Rattle.colour_graph.specs.Colourful.{IsColourful, IsReached, at_head, at_root, heads_of, score_of, total, weights_of}
 use Rattle.colour_graph.specs.Graph.{Graph, IsEdge, IsGraph, StandsBefore, colour_count, colour_of, edge_at, head_colour}
-use Rattle.tree_certificate.specs.ColourSet.{IsPartOf, without}
+use Rattle.tree_certificate.specs.ColourSet.{without}
 use Rattle.tree_certificate.specs.TableHolds.{number_at, number_of, table_total}
 use Rattle.tree_certificate.proofs.Sums.{Different, IsIn, sum_of}
 use Rattle.tree_certificate.proofs.Tables.{place_in-left_out}
 use Rattle.subset_tree.specs.inside.Exact.{IsExact}
-use Rattle.subset_tree.specs.inside.Rebuilding.{IsLeftOut, IsStep, IsTaken, given, owned, sum_with}
-use Rattle.subset_tree.proofs.Growing.{Contains-from_IsIn, Different-push, IsIn-at, IsIn-left, IsIn-push, IsIn-push_cases, sum_of-more, sum_of-none, sum_of-push, sum_of-same}
+use Rattle.subset_tree.specs.inside.Rebuilding.{IsLeftOut, IsStep, IsTaken, given, owned}
+use Rattle.subset_tree.proofs.Growing.{Contains-from_IsIn, Different-push, IsIn-left, IsIn-push, IsIn-push_cases, sum_of-more, sum_of-none, sum_of-push, sum_of-same}
 use Rattle.subset_tree.proofs.Owned.{IsIn-given, IsIn-replicate, length-given, length-owned, length-part, owned-all, owned-given_from, owned-given_new, owned-given_other}
 
 -- the root and the heads

@@ -1,11 +1,11 @@
 -- The least number that is enough for a set beside one smaller colour, by the walk over the parts of the set.
-use Rattle.std.proofs.Common.{◌≡◌, ◌≢◌, ◌⊎◌, inl, inr, ◌+◌, ◌-◌, ◌*◌, ◌<◌, ◌≤◌, ◌↔◌, ℕ, suc, ℤ, pos, negsuc, ◌+ℤ◌, ◌≤ℤ◌, Bool, List, ap, sym, refl, subst, ◌∙◌, arith, bit_and, SFits, w64}
+use Rattle.std.proofs.Common.{◌≡◌, ◌⊎◌, inl, inr, ◌+◌, ◌-◌, ◌*◌, ◌<◌, ◌≤◌, ◌↔◌, ℕ, ℤ, pos, negsuc, ◌+ℤ◌, ◌≤ℤ◌, Bool, List, ap, sym, ◌∙◌, arith, bit_and, SFits, w64}
 use Rattle.std.proofs.lemmas.Bool.{cases_eq, cases_lt}
 use Rattle.std.proofs.lemmas.Int.{ints}
 use Rattle.std.proofs.lemmas.Nat.{and_le_l}
 use Rattle.tree_certificate.specs.ColourSet.{IsPartOf, place_of, without}
 use Rattle.subset_tree.specs.inside.Filling.{AreGains, AreModest, IsEnough, IsEnoughAbove, IsRaised, PartAt, number_in}
-use Rattle.subset_tree.proofs.Parts.{IsPartOf-before, IsPartOf-nothing, IsPartOf-self, before, le-before, nothing_of, place-before, place-nothing, place-without}
+use Rattle.tree_certificate.proofs.SetParts.{IsPartOf-before, IsPartOf-nothing, IsPartOf-self, before, le-before, nothing_of, place-before, place-nothing, place-without}
 
 -- Numbers of a vertex and gains fit their type.
 fits : (z : ℤ) (most : ℕ) → negsuc 999999999 ≤ℤ z → z ≤ℤ pos most → most < 1000000000 → SFits w64 z

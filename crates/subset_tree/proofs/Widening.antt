@@ -1,10 +1,10 @@
 -- The gains that one edge raises, and the numbers for one smaller colour more.
-use Rattle.std.proofs.Common.{◌≡◌, ◌≢◌, ◌⊎◌, inl, inr, ◌+◌, ◌-◌, ◌*◌, ◌<◌, ◌≤◌, ◌↔◌, ℕ, ℤ, pos, negsuc, ◌+ℤ◌, ◌≤ℤ◌, Bool, List, length, slice_set, get_or-set_other, get_or-set_same, sym, refl, ◌∙◌, arith}
-use Rattle.std.proofs.lemmas.Bool.{cases_eq, cases_lt}
+use Rattle.std.proofs.Common.{◌≡◌, ◌≢◌, ◌⊎◌, inl, inr, ◌+◌, ◌*◌, ◌<◌, ◌≤◌, ◌↔◌, ℕ, ℤ, pos, negsuc, ◌+ℤ◌, ◌≤ℤ◌, Bool, List, length, slice_set, get_or-set_other, get_or-set_same, sym, ◌∙◌, arith}
+use Rattle.std.proofs.lemmas.Bool.{cases_eq}
 use Rattle.std.proofs.lemmas.Int.{ints}
-use Rattle.tree_certificate.specs.ColourSet.{IsPartOf, place_of, without}
+use Rattle.tree_certificate.specs.ColourSet.{place_of, without}
 use Rattle.subset_tree.specs.inside.Filling.{AreGains, AreModest, IsEnough, IsRaised, number_in}
-use Rattle.subset_tree.proofs.Parts.{place-without}
+use Rattle.tree_certificate.proofs.SetParts.{place-without}
 
 pub number_in-same : (numbers : List ℤ) (place : ℕ) (number : ℤ) → place < length numbers → number_in (slice_set numbers place number) place ≡ number
 number_in-same numbers place number within = get_or-set_same numbers place number (pos 0) within

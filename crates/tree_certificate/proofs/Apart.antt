@@ -1,10 +1,8 @@
 -- Documents with the same lines are the same, and so are their parts, whatever lines stand behind them.
-use Rattle.std.proofs.Common.{◌≡◌, ◌∙◌, ℕ, ℤ, List, [], ◌∷◌, ◌++◌, length, map, refl, sym, ap, arith}
+use Rattle.std.proofs.Common.{◌≡◌, ◌∙◌, ℕ, ℤ, List, [], ◌∷◌, ◌++◌, length, map, refl, sym, arith}
 use Rattle.std.specs.List.{flat_map}
 use Rattle.std.proofs.lemmas.List.{append_assoc}
-use Rattle.element_table.specs.FormulaList.{FormulaListValue}
 use Rattle.tree_certificate.specs.declared.document.Skip.{Skip}
-use Rattle.tree_certificate.specs.declared.document.Body.{Body}
 use Rattle.tree_certificate.specs.declared.document.Body.TheVariants.{Skipped, Solved}
 use Rattle.tree_certificate.specs.declared.document.Section.{Section}
 use Rattle.tree_certificate.specs.declared.document.Ending.{Ending}
@@ -13,10 +11,9 @@ use Rattle.tree_certificate.specs.declared.document.Document.{Document}
 use Rattle.tree_certificate.specs.declared.entry.Mark.{Mark}
 use Rattle.tree_certificate.specs.declared.entry.Outcome.{Outcome}
 use Rattle.tree_certificate.specs.declared.entry.Outcome.TheVariants.{Tree, TooLarge}
-use Rattle.tree_certificate.specs.declared.entry.Entry.{Entry}
 use Rattle.tree_certificate.specs.declared.entry.TreeRow.{TreeRow}
-use Rattle.tree_certificate.specs.Value.{CertValue, a_table}
-use Rattle.tree_certificate.specs.Line.{Line, header_line, clean_line, refused_line, spectrum_line, skip_line, lists_line, list_line, formula_line, entries_line, too_large_line, tree_line, row_line, table_line, table_row_line, done_line}
+use Rattle.tree_certificate.specs.Value.{a_table}
+use Rattle.tree_certificate.specs.Line.{Line, header_line, refused_line, spectrum_line, skip_line, lists_line, list_line, formula_line, entries_line, too_large_line, tree_line, row_line, table_line, table_row_line, done_line}
 use Rattle.tree_certificate.specs.Document.{body_lines, cert_lines, ending_line, entry_lines, lines_of, list_lines, outcome_lines, section_lines}
 
 -- parts whose lines are the same, with anything behind them, are the same

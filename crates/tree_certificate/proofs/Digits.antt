@@ -1,5 +1,5 @@
 -- The number of a token, digit by digit.
-use Rattle.std.proofs.Common.{◌≡◌, ◌<◌, ◌≤◌, ◌+◌, ◌-◌, ◌*◌, ℕ, zero, suc, Bool, true, false, cond, below_more, List, [], ◌∷◌, Some, None, Option, length, take, get_or, min, refl, sym, ap, ◌∙◌, arith}
+use Rattle.std.proofs.Common.{◌≡◌, ◌<◌, ◌≤◌, ◌+◌, ◌-◌, ◌*◌, ℕ, zero, suc, Bool, true, false, cond, below_more, List, [], ◌∷◌, Some, None, length, take, get_or, min, refl, sym, ap, ◌∙◌, arith}
 use Rattle.std.specs.Bool.{MatchBool}
 use Rattle.std.specs.Char.{IsAsciiDigit, IsNotAsciiDigit, is_ascii_digit, digit_value}
 use Rattle.std.specs.Str.{all_ascii_digits}

@@ -1,13 +1,13 @@
 -- Each kind of field is read as it is written.
-use Rattle.std.proofs.Common.{◌≡◌, ◌<◌, ◌≤◌, ◌+◌, ◌∙◌, ℕ, zero, suc, ℤ, pos, negsuc, neg_ℤ, Bool, true, false, not, ◌&&◌, cond, List, [], ◌∷◌, ◌++◌, length, get_or, Option, Some, None, Result, Ok, Err, eqb, leb, min, decimal, refl, sym, ap, subst, arith, rules}
-use Rattle.std.specs.Prelude.{codes, IsTrue, nat_le, unsigned_abs}
+use Rattle.std.proofs.Common.{◌≡◌, ◌<◌, ◌≤◌, ◌∙◌, ℕ, zero, suc, ℤ, pos, negsuc, neg_ℤ, Bool, true, false, not, ◌&&◌, cond, List, [], ◌∷◌, length, get_or, Option, Some, None, Result, Ok, Err, eqb, leb, decimal, refl, sym, ap, subst, arith, rules}
+use Rattle.std.specs.Prelude.{codes, unsigned_abs}
 use Rattle.std.specs.Char.{is_ascii_digit}
 use Rattle.std.specs.Fmt.{signed_decimal}
 use Rattle.std.specs.List.{All, AllByRecursion, list_all}
 use Rattle.std.specs.Option.{option_map}
 use Rattle.std.specs.Str.{all_ascii_digits, bytes_eq}
 use Rattle.std.specs.Str.Parse.{digits_value}
-use Rattle.std.proofs.lemmas.Bool.{and_parts, and_from, and_left, eq-eqb, eqb-true, eqb-false, le-leb, leb-true, leb-false, lt-leb, false≢true, ne_eqb, not-true, not_from_false}
+use Rattle.std.proofs.lemmas.Bool.{and_parts, and_from, eqb-true, eqb-false, le-leb, leb-true, leb-false, lt-leb, false≢true, ne_eqb, not-true, not_from_false}
 use Rattle.std.proofs.lemmas.Fmt.{decimal-digits_value}
 use Rattle.std.proofs.lemmas.Str.Parse.{IsNumeralModel, numerals_by_value}
 use Rattle.std.proofs.lemmas.List.Elements.{recursion_from_All}
@@ -21,9 +21,9 @@ use Rattle.mgf_reader.specs.declared.fault.MgfKind.{MgfKind}
 use Rattle.mgf_reader.specs.declared.fault.MgfKind.TheVariants.{NestedBegin, StrayEnd, OpenBlock, PeakOutside, BadPeak, BadPrecursor, BadCharge, NoForm, LineTooLong, TooManyPeaks}
 use Rattle.tree_certificate.specs.declared.entry.Mark.{Mark}
 use Rattle.tree_certificate.specs.declared.entry.Mark.TheVariants.{Optimal, Gap}
-use Rattle.tree_certificate.specs.Line.{Field, WritesField, WritesNumber, WritesSigned, field_text, is_field_in_range, is_number, mark_text, word_of}
+use Rattle.tree_certificate.specs.Line.{WritesField, WritesNumber, WritesSigned, field_text, is_field_in_range, is_number, mark_text, word_of}
 use Rattle.tree_certificate.specs.Number.{is_near}
-use Rattle.tree_certificate.specs.inside.Field.{Kind, word_kind, number_kind, signed_kind, formula_kind, mark_kind, kind_kind, Of, field_of, value_in, capped, greatest_read, is_space, number_in, signed_in, formula_in, spelled_formula, mark_in, kind_in, word_in}
+use Rattle.tree_certificate.specs.inside.Field.{Kind, word_kind, number_kind, signed_kind, formula_kind, mark_kind, kind_kind, Of, field_of, value_in, capped, is_space, number_in, signed_in, spelled_formula, mark_in, kind_in}
 use Rattle.tree_certificate.proofs.Tokens.{NoSpace}
 
 -- what is known of formulas and their spellings, and of the kinds of a refusal

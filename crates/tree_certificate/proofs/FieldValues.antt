@@ -1,18 +1,18 @@
 -- All fields of a line are read as they are written.
-use Rattle.std.proofs.Common.{◌≡◌, ◌<◌, ◌≤◌, ◌∙◌, ℕ, ℤ, Bool, true, false, not, ◌&&◌, cond, List, [], ◌∷◌, ◌++◌, length, map, Option, Some, None, eqb, leb, refl, sym, ap, subst, arith}
+use Rattle.std.proofs.Common.{◌≡◌, ◌≤◌, ◌∙◌, ℕ, ℤ, Bool, true, false, ◌&&◌, cond, List, [], ◌∷◌, ◌++◌, length, map, Option, Some, None, eqb, leb, refl, sym, ap, subst, arith}
 use Rattle.std.specs.List.{flat_map, list_all}
 use Rattle.std.specs.Option.{option_and_then, option_map}
 use Rattle.std.specs.Str.{bytes_eq}
 use Rattle.std.proofs.lemmas.Bool.{and_parts, and_from, eqb-true, eqb-false, false≢true, ne_eqb}
-use Rattle.std.proofs.lemmas.List.{append-nil, append_assoc, length-map}
+use Rattle.std.proofs.lemmas.List.{append-nil, length-map}
 use Rattle.std.proofs.lemmas.Option.{none-some, same_Some, some_pair_parts}
 use Rattle.std.proofs.lemmas.Slice.Eq.{bytes_eq-Decides}
 use Rattle.tree_certificate.specs.Title.{are_bytes, escaped}
 use Rattle.tree_certificate.specs.Line.{Field, a_word, a_number, a_signed, a_formula, a_mark, a_kind, a_title, some_numbers, WritesAll, WritesField, WritesFields, field_text, is_field_in_range}
 use Rattle.tree_certificate.specs.Number.{is_near}
-use Rattle.tree_certificate.specs.inside.Field.{Kind, Of, OfTail, Tail, no_tail, title_tail, numbers_tail, Values, field_of, fields_of, tail_fields, is_space, numbers_at, some_numbers_at, tail_at, title_at, title_of, token_at, value_at, value_in, values_at}
+use Rattle.tree_certificate.specs.inside.Field.{Kind, Of, OfTail, Tail, no_tail, title_tail, numbers_tail, Values, field_of, fields_of, tail_fields, is_space, numbers_at, tail_at, title_at, title_of, token_at, value_at, value_in, values_at}
 use Rattle.tree_certificate.proofs.Tokens.{IsRest, token_at-front, token_at-sound}
-use Rattle.tree_certificate.proofs.FieldKinds.{IsToken, Known, capped_of, capped_signed, from_token, in_complete, in_sound, is_good_kind, range_kept, to_token, token_no_space, token_text, value_kept}
+use Rattle.tree_certificate.proofs.FieldKinds.{Known, capped_of, capped_signed, from_token, in_complete, in_sound, is_good_kind, range_kept, to_token, token_no_space, token_text, value_kept}
 use Rattle.tree_certificate.proofs.NumberLists.{near_kept, numbers_complete, numbers_kept, numbers_sound, numbers_text}
 use Rattle.tree_certificate.proofs.Titles.{title_again}
 

@@ -1,7 +1,6 @@
 -- Whatever is needed can be met by good lines.
-use Rattle.std.proofs.Common.{◌≡◌, ◌≤◌, ◌<◌, ◌∙◌, ℕ, ℤ, pos, List, [], ◌∷◌, ◌++◌, length, get_or, Option, Some, None, inl, inr, refl, sym, ap, subst, arith, true}
-use Rattle.std.specs.Prelude.{codes, replicate, IsTrue}
-use Rattle.std.specs.List.{AllByRecursion}
+use Rattle.std.proofs.Common.{◌≡◌, ◌∙◌, ℕ, pos, List, [], ◌∷◌, ◌++◌, get_or, Some, inl, inr, refl, subst, arith, true}
+use Rattle.std.specs.Prelude.{codes}
 use Rattle.std.proofs.Math.ListN.{get_or-eq_default}
 use Rattle.std.proofs.lemmas.Bool.{cases_lt}
 use Rattle.std.proofs.lemmas.List.{get_or-replicate}
@@ -11,13 +10,13 @@ use Rattle.tree_certificate.specs.declared.document.Body.TheVariants.{Skipped}
 use Rattle.tree_certificate.specs.declared.document.Ending.TheVariants.{Clean}
 use Rattle.tree_certificate.specs.declared.entry.Outcome.TheVariants.{TooLarge}
 use Rattle.tree_certificate.specs.Value.{a_table}
-use Rattle.tree_certificate.specs.Line.{Line, header_line, clean_line, skip_line, list_line, formula_line, entries_line, too_large_line, row_line, table_line, table_row_line, done_line, Spells, WritesField, a_number, in_range, line_text}
+use Rattle.tree_certificate.specs.Line.{Line, header_line, clean_line, skip_line, list_line, formula_line, entries_line, too_large_line, row_line, table_line, table_row_line, done_line, Spells, in_range}
 use Rattle.tree_certificate.specs.Document.{AreGoodLines, IsGoodLine}
 use Rattle.tree_certificate.specs.inside.Need.{Need, need_document, need_sections, need_body, need_list, need_formula, need_entries, need_entry, need_row, need_cert, need_table_row, need_done, follow}
 use Rattle.tree_certificate.proofs.FieldKinds.{Known}
 use Rattle.tree_certificate.proofs.Needs.{All, Value, all_lines, value_lines}
-use Rattle.tree_certificate.proofs.Running.{IsTaken, taken}
-use Rattle.tree_certificate.proofs.Shapes.{IsRead, line_complete}
+use Rattle.tree_certificate.proofs.Running.{taken}
+use Rattle.tree_certificate.proofs.Shapes.{line_complete}
 
 -- a line that a text spells is good where its numbers are in their ranges
 pub good_line : Known → (need : Need) (line : Line) (text : List ℕ) (more : List Need) → follow need line ≡ Some more → Spells line text → in_range line ≡ true → IsGoodLine line

@@ -1,13 +1,12 @@
 -- One line where something is needed.
-use Rattle.std.proofs.Common.{◌≡◌, ◌∙◌, ℕ, Bool, true, false, cond, List, [], ◌∷◌, ◌++◌, Option, Some, None, refl, sym, ap}
-use Rattle.std.specs.Prelude.{codes}
+use Rattle.std.proofs.Common.{◌≡◌, ◌∙◌, ℕ, true, false, cond, List, [], ◌∷◌, ◌++◌, Some, None, sym, ap}
 use Rattle.std.proofs.lemmas.List.{append-nil, append_assoc}
 use Rattle.mgf_reader.specs.Text.{ended_lines}
 use Rattle.tree_certificate.specs.Line.{Line, in_range, line_text}
-use Rattle.tree_certificate.specs.Document.{IsGoodLine, text_of}
+use Rattle.tree_certificate.specs.Document.{IsGoodLine}
 use Rattle.tree_certificate.specs.inside.Cut.{cut_line}
 use Rattle.tree_certificate.specs.inside.Need.{Need, follow, line_at}
-use Rattle.tree_certificate.specs.inside.Verdict.{Stop, Stops, Took, at_bad, at_big, at_end, judged, next_needs, verdict}
+use Rattle.tree_certificate.specs.inside.Verdict.{Stops, Took, at_bad, at_big, at_end, judged, next_needs, verdict}
 use Rattle.tree_certificate.proofs.Cutting.{IsCut, cut_none, cut_some}
 
 -- a line that is read is its spelling

@@ -16,6 +16,7 @@ mod FirstLines
 mod Sequence
 mod Whole
 mod TextOf
+pub mod SetParts
 pub mod Sums
 pub mod Owners
 pub mod Bounding

@@ -1,11 +1,9 @@
 -- What the needs take, from the first to the last line, is the lines of a document, and every document's lines are taken so.
-use Rattle.std.proofs.Common.{◌≡◌, ◌∙◌, ℕ, zero, suc, ℤ, List, [], ◌∷◌, ◌++◌, length, map, Option, Some, None, refl, sym, ap, subst, arith}
+use Rattle.std.proofs.Common.{◌≡◌, ◌∙◌, ℕ, zero, suc, ℤ, List, [], ◌∷◌, ◌++◌, length, map, Option, Some, None, refl, sym, ap, subst}
 use Rattle.std.specs.Prelude.{replicate}
 use Rattle.std.specs.List.{flat_map}
 use Rattle.std.proofs.lemmas.List.{append-nil, append_assoc}
-use Rattle.std.proofs.lemmas.Option.{none-some, same_Some}
 use Rattle.element_table.specs.FormulaList.{FormulaListValue}
-use Rattle.tree_certificate.specs.declared.document.Skip.{Skip}
 use Rattle.tree_certificate.specs.declared.document.Body.{Body}
 use Rattle.tree_certificate.specs.declared.document.Body.TheVariants.{Skipped, Solved}
 use Rattle.tree_certificate.specs.declared.document.Section.{Section}
@@ -16,7 +14,7 @@ use Rattle.tree_certificate.specs.declared.entry.Outcome.{Outcome}
 use Rattle.tree_certificate.specs.declared.entry.Outcome.TheVariants.{Tree, TooLarge}
 use Rattle.tree_certificate.specs.declared.entry.Entry.{Entry}
 use Rattle.tree_certificate.specs.declared.entry.TreeRow.{TreeRow}
-use Rattle.tree_certificate.specs.Value.{CertValue, a_table, TreeValue}
+use Rattle.tree_certificate.specs.Value.{CertValue, a_table}
 use Rattle.tree_certificate.specs.Line.{Line, header_line, clean_line, refused_line, spectrum_line, skip_line, lists_line, list_line, formula_line, entries_line, too_large_line, tree_line, row_line, table_line, table_row_line, done_line}
 use Rattle.tree_certificate.specs.Document.{body_lines, cert_lines, ending_line, entry_lines, lines_of, list_lines, outcome_lines, section_lines}
 use Rattle.tree_certificate.specs.inside.Need.{Need, need_document, need_sections, need_body, need_list, need_formula, need_entries, need_entry, need_row, need_cert, need_table_row, need_done, follow}

@@ -1,7 +1,7 @@
 -- Numbers to the end of a line are read as they are written.
-use Rattle.std.proofs.Common.{◌≡◌, ◌<◌, ◌≤◌, ◌+◌, ◌∙◌, ◌^◌, ℕ, zero, suc, ℤ, pos, negsuc, neg_ℤ, Bool, true, false, not, ◌&&◌, cond, List, [], ◌∷◌, ◌++◌, length, take, drop, map, Option, Some, None, eqb, leb, refl, sym, ap, subst, arith}
+use Rattle.std.proofs.Common.{◌≡◌, ◌<◌, ◌≤◌, ◌+◌, ◌∙◌, ◌^◌, ℕ, zero, suc, ℤ, pos, negsuc, neg_ℤ, Bool, true, false, not, ◌&&◌, cond, List, [], ◌∷◌, ◌++◌, length, take, drop, map, Option, Some, None, leb, refl, sym, ap, subst, arith}
 use Rattle.std.specs.Fmt.{signed_decimal}
-use Rattle.std.specs.List.{All, AllByRecursion, before_first, position_or_len, flat_map, join_with_byte, list_all, slice_split}
+use Rattle.std.specs.List.{AllByRecursion, before_first, position_or_len, flat_map, join_with_byte, list_all, slice_split}
 use Rattle.std.specs.Option.{option_and_then, option_map}
 use Rattle.std.proofs.lemmas.Bool.{and_from, and_parts, eqb-true, eq-eqb, not-true}
 use Rattle.std.proofs.lemmas.List.{append-nil, append_assoc, length-append, take-append-drop}
@@ -10,7 +10,7 @@ use Rattle.std.proofs.lemmas.List.Splits.{join_with_byte-slice_split, length-sli
 use Rattle.std.proofs.lemmas.Option.{none-some, some_pair_parts}
 use Rattle.std.specs.Prelude.{unsigned_abs}
 use lib.Signed.{mag}
-use Rattle.tree_certificate.specs.Line.{WritesAll, WritesSigned}
+use Rattle.tree_certificate.specs.Line.{WritesAll}
 use Rattle.tree_certificate.specs.Number.{is_near}
 use Rattle.tree_certificate.specs.inside.Field.{capped, is_space, numbers_at, numbers_in, signed_in, signed_kind, token_at, value_at}
 use Rattle.tree_certificate.proofs.Tokens.{IsRest, NoSpace, token_at-sound}

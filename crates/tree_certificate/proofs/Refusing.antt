@@ -1,19 +1,19 @@
 -- Where the lines of a text stop, it is refused as the documents say.
-use Rattle.std.proofs.Common.{◌≡◌, ◌≤◌, ◌+◌, ◌-◌, ◌∙◌, ℕ, Bool, true, false, List, [], ◌∷◌, ◌++◌, length, Option, Some, None, inl, inr, refl, sym, ap, subst, arith}
-use Rattle.std.proofs.lemmas.Bool.{false≢true, true≢false}
+use Rattle.std.proofs.Common.{◌≡◌, ◌≤◌, ◌+◌, ◌-◌, ◌∙◌, ℕ, List, [], ◌∷◌, ◌++◌, length, Some, None, refl, sym, ap, subst, arith}
+use Rattle.std.proofs.lemmas.Bool.{true≢false}
 use Rattle.std.proofs.lemmas.List.{append-nil, append_assoc, length-append}
 use Rattle.std.proofs.lemmas.Option.{none-some, same_Some}
 use Rattle.tree_certificate.specs.declared.document.Document.{Document}
 use Rattle.tree_certificate.specs.Line.{Line, Spells, in_range}
 use Rattle.tree_certificate.specs.Document.{AreGoodLines, IsGood, IsGoodLine, lines_of}
-use Rattle.tree_certificate.specs.Reading.{Begins, IsAny, IsBadLine, IsPastEnd, IsTooBig, IsTruncated, Reaches, Spelled}
+use Rattle.tree_certificate.specs.Reading.{Begins, IsAny, IsBadLine, IsPastEnd, IsTooBig, IsTruncated, Spelled}
 use Rattle.tree_certificate.specs.inside.Need.{Need, need_document, follow, line_at}
 use Rattle.tree_certificate.specs.inside.Verdict.{at_bad, at_big, at_end, verdict}
 use Rattle.tree_certificate.proofs.FieldKinds.{Known}
-use Rattle.tree_certificate.proofs.Finishing.{finish, good_append, good_line}
-use Rattle.tree_certificate.proofs.Needs.{All, Leads, accepted, all_lead, all_lines, document_leads, leads_on}
-use Rattle.tree_certificate.proofs.Running.{Run, run, same_front}
-use Rattle.tree_certificate.proofs.Shapes.{IsRead, ReadAs, line_complete, line_sound}
+use Rattle.tree_certificate.proofs.Finishing.{finish, good_append}
+use Rattle.tree_certificate.proofs.Needs.{Leads, accepted, all_lead, all_lines, document_leads, leads_on}
+use Rattle.tree_certificate.proofs.Running.{run, same_front}
+use Rattle.tree_certificate.proofs.Shapes.{line_complete, line_sound}
 
 -- some document goes on with lines that are taken for the need of one
 record Whole (front : List Line) (left : List Need) : Type 0 where

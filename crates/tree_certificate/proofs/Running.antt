@@ -1,7 +1,6 @@
 -- Lines are taken up to where they stop.
 use Rattle.std.proofs.Common.{◌≡◌, ◌∙◌, ℕ, Bool, true, false, cond, List, [], ◌∷◌, ◌++◌, Option, Some, None, refl, sym, ap, subst}
-use Rattle.std.specs.Prelude.{IsTrue}
-use Rattle.std.proofs.lemmas.Option.{none-some, same_Some}
+use Rattle.std.proofs.lemmas.Option.{same_Some}
 use Rattle.tree_certificate.specs.Line.{Line, Spells, in_range, line_text}
 use Rattle.tree_certificate.specs.Document.{AreGoodLines, IsGoodLine}
 use Rattle.tree_certificate.specs.Reading.{Spelled}
@@ -9,7 +8,7 @@ use Rattle.tree_certificate.specs.inside.Need.{Need, follow, line_at}
 use Rattle.tree_certificate.specs.inside.Verdict.{Stop, at_bad, at_big, at_end, judged, next_needs, verdict}
 use Rattle.tree_certificate.proofs.FieldKinds.{Known}
 use Rattle.tree_certificate.proofs.Needs.{Leads}
-use Rattle.tree_certificate.proofs.Shapes.{IsRead, ReadAs, line_complete, line_sound}
+use Rattle.tree_certificate.proofs.Shapes.{line_complete, line_sound}
 
 -- a line that is read and in its ranges is good, and the text is its spelling
 pub record IsTaken (need : Need) (text : List ℕ) (line : Line) : Type 0 where

@@ -12,7 +12,7 @@ use Rattle.tree_certificate.specs.Line.{Line, line_text}
 use Rattle.tree_certificate.specs.Document.{text_of}
 use Rattle.tree_certificate.specs.inside.Need.{Need}
 use Rattle.tree_certificate.specs.inside.Taking.{StopsAs}
-use Rattle.tree_certificate.specs.inside.Verdict.{Stop, Stops, Took, verdict}
+use Rattle.tree_certificate.specs.inside.Verdict.{Took, verdict}
 use Rattle.tree_certificate.proofs.Finishing.{good_append}
 
 flat_map-append : {X A : Type 0} (f : X → List A) (first later : List X) → flat_map f (first ++ later) ≡ flat_map f first ++ flat_map f later

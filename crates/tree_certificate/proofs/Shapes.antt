@@ -11,7 +11,7 @@ use Rattle.tree_certificate.specs.declared.document.Skip.{Skip}
 use Rattle.tree_certificate.specs.declared.document.Skip.TheVariants.{NoPrecursor, Charge, Range, TooMany}
 use Rattle.tree_certificate.specs.Line.{Field, a_word, a_number, a_kind, greatest_line_number, greatest_peak_number, greatest_rows, LineShape, form, form_of, Line, header_line, clean_line, refused_line, spectrum_line, skip_line, lists_line, list_line, formula_line, entries_line, too_large_line, tree_line, row_line, table_line, table_row_line, done_line, Spells, WritesFields, field_text, in_range, is_field_in_range, line_text}
 use Rattle.tree_certificate.specs.Number.{greatest_number}
-use Rattle.tree_certificate.specs.inside.Field.{Kind, word_kind, number_kind, signed_kind, formula_kind, mark_kind, Of, Tail, no_tail, Values, behind_word, field_of, fields_of, form_at, signed_in, token_at, value_at, value_in, values_at}
+use Rattle.tree_certificate.specs.inside.Field.{Kind, word_kind, number_kind, signed_kind, formula_kind, mark_kind, Of, Tail, no_tail, Values, behind_word, field_of, fields_of, signed_in, token_at, value_at, value_in, values_at}
 use Rattle.tree_certificate.specs.inside.Need.{Need, need_document, need_sections, need_body, need_list, need_formula, need_entries, need_entry, need_row, need_cert, need_table_row, need_done, Shape, first_line, follow, line_at, line_with, or_else, shapes_of, header_shape, clean_shape, refused_shape, spectrum_shape, no_precursor_shape, charge_shape, range_shape, too_many_shape, lists_shape, list_shape, formula_shape, entries_shape, too_large_shape, tree_shape, row_shape, table_shape, table_row_shape, done_shape}
 use Rattle.tree_certificate.proofs.FieldKinds.{IsToken, Known, is_good_kind, to_token, token_no_space}
 use Rattle.tree_certificate.proofs.FieldValues.{Reads, are_good, are_in_range, capped_values, complete, fields_rest, ranges_kept, sound, value_complete, values_kept, values_text}

@@ -1,8 +1,8 @@
 -- A title is read back from its spelling.
-use Rattle.std.proofs.Common.{◌≡◌, ◌<◌, ◌≤◌, ◌+◌, ◌-◌, ◌*◌, ◌/◌, ◌%◌, ◌∙◌, ℕ, suc, Bool, true, false, not, ◌&&◌, cond, List, [], ◌∷◌, ◌++◌, length, drop, get_or, Option, Some, None, eqb, leb, ltb, refl, sym, ap, arith}
-use Rattle.std.proofs.lemmas.Bool.{and_from, lt-ltb, and_parts, cond-false, cond-true, le-ltb, ltb-true, leb-true, leb-false, lt-leb, le-leb, ltb-false, ne_eqb, not-true, eqb-false}
+use Rattle.std.proofs.Common.{◌≡◌, ◌<◌, ◌≤◌, ◌+◌, ◌*◌, ◌/◌, ◌%◌, ◌∙◌, ℕ, suc, Bool, true, false, not, ◌&&◌, cond, List, [], ◌∷◌, ◌++◌, length, drop, get_or, Option, Some, None, eqb, leb, ltb, refl, sym, ap, arith}
+use Rattle.std.proofs.lemmas.Bool.{and_from, lt-ltb, and_parts, cond-false, cond-true, le-ltb, ltb-true, lt-leb, le-leb, ltb-false, ne_eqb, not-true}
 use Rattle.std.proofs.lemmas.Option.{none-some, some_pair_parts}
-use Rattle.tree_certificate.specs.Title.{are_bytes, escaped, escaped_byte, hexadecimal}
+use Rattle.tree_certificate.specs.Title.{are_bytes, escaped, hexadecimal}
 use Rattle.tree_certificate.specs.inside.Field.{nibble_of, title_byte_at, title_of}
 
 title_of-plain : (byte : ℕ) (rest : List ℕ) → eqb byte 92 ≡ false → title_of (byte ∷ rest) ≡ byte ∷ title_of rest

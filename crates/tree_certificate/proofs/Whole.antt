@@ -1,5 +1,5 @@
 -- Bytes behind the end of a document.
-use Rattle.std.proofs.Common.{◌≡◌, ◌≤◌, ◌+◌, ◌-◌, ◌∙◌, ◌⊎◌, ℕ, List, [], ◌∷◌, length, Some, None, eqb, false, inl, inr, refl, sym, ap, subst, arith}
+use Rattle.std.proofs.Common.{◌≡◌, ◌≤◌, ◌+◌, ◌-◌, ◌∙◌, ◌⊎◌, ℕ, List, [], ◌∷◌, length, Some, None, eqb, false, inl, inr, refl, sym, ap, arith}
 use Rattle.mgf_reader.specs.Text.{ended_lines, unfinished_line}
 use Rattle.tree_certificate.specs.Reading.{IsBadLine, IsPastEnd}
 use Rattle.tree_certificate.specs.Line.{Line}

@@ -1,7 +1,7 @@
 -- The first number of a vertex that is not high enough.
-use Rattle.std.specs.Prelude.{◌≡◌, ◌<◌, ◌≤◌, ◌+◌, ◌*◌, ◌^◌, ◌↔◌, ℕ, ℤ, ◌≤ℤ◌, ◌<ℤ◌, Bool, true, List, ◌∷◌, length}
+use Rattle.std.specs.Prelude.{◌≡◌, ◌<◌, ◌≤◌, ◌+◌, ◌*◌, ◌↔◌, ℕ, ℤ, ◌≤ℤ◌, ◌<ℤ◌, Bool, true, List, ◌∷◌, length}
 use Rattle.std.specs.Prelude.{Option, Some, None}
-use Rattle.colour_graph.specs.Graph.{Graph, colour_count, colour_of}
+use Rattle.colour_graph.specs.Graph.{Graph}
 use Rattle.tree_certificate.specs.TableHolds.{IsHighAt, IsHighEnough, number_at, number_of, place_in, row_length}
 use Rattle.certificate_checker.specs.Places.{IsNeeded}
 use Rattle.tree_certificate.specs.ColourSet.{place_of}

@@ -1,14 +1,29 @@
 -- What holds between the steps of a command on a text.
 use Rattle.std.specs.Prelude.{◌≡◌, ◌≢◌, ℕ, List, Option, is_some, take, true, ⊤}
-use Rattle.frag_io.specs.declared.desk.Slot.TheVariants.{Profile, Report, CertOut}
+use Rattle.frag_io.specs.declared.desk.Slot.{Slot}
+use Rattle.frag_io.specs.declared.desk.Slot.TheVariants.{Profile, CertIn, Report, CertOut}
 use Rattle.frag_io.specs.Desk.{appended}
 use Rattle.frag_io.specs.DeskState.{DeskState}
+use Rattle.fragment_run.specs.Orders.{document_begin}
+use Rattle.fragment_run.specs.declared.text_steps.DocumentSlot.{DocumentSlot}
+use Rattle.fragment_run.specs.Begins.{Begin, name_in}
 use Rattle.fragment_run.specs.Class.{Class, memory, open_fault, read_fault, write_fault, too_long}
 
--- the report was begun, and the document where one is named
-pub record HasOutputs (document : Option (List ℕ)) (now : DeskState) : Type 0 where
+-- the slots of documents: of one that is read, and of one that is written
+abbrev pub IsDocumentSlot : Slot → Type 0
+IsDocumentSlot CertIn = ⊤
+IsDocumentSlot CertOut = ⊤
+IsDocumentSlot slot = ⊥
+
+-- the begin of a document that the code names
+abbrev pub begin_of : DocumentSlot → Begin
+begin_of document = record { slot = document.slot; name = document.name.now }
+
+-- the report was begun, and of the slots of documents that of the document, where there is one
+pub record HasSlots (document : Option Begin) (now : DeskState) : Type 0 where
   pub report : now.begun Report ≡ true
-  pub document_too : now.begun CertOut ≡ is_some document
+  pub documents : (slot : Slot) → IsDocumentSlot slot
+      → now.begun slot ≡ is_some (name_in (document_begin document) slot)
 
 -- the classes that a text which is no profile leads to before anything is written
 abbrev pub IsTextStop : Class → Type 0

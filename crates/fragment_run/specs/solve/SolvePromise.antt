@@ -1,28 +1,34 @@
 -- What a run that was ordered to solve owes to the text that it was named.
-use Rattle.std.specs.Prelude.{◌≡◌, ℕ, List, Option, Some, None, IfSome}
+use Rattle.std.specs.Prelude.{◌≡◌, ℕ, List, length, Option, Some, None, IfSome}
 use Rattle.frag_io.specs.declared.desk.Slot.{Slot}
 use Rattle.frag_io.specs.declared.desk.Slot.TheVariants.{Report, CertOut}
 use Rattle.frag_io.specs.DeskState.{DeskState}
 use Rattle.mgf_reader.specs.declared.fault.MgfFault.{MgfFault}
 use Rattle.rank_report.specs.Report.{report_text_of}
-use Rattle.tree_certificate.specs.Document.{spelling_of}
+use Rattle.tree_certificate.specs.Document.{IsGood, spelling_of}
 use Rattle.tree_certificate.specs.declared.document.Document.{Document}
 use Rattle.fragment_run.specs.Leaves.{Meaning}
-use Rattle.fragment_run.specs.Orders.{SolveNames}
+use Rattle.fragment_run.specs.Orders.{DocumentNames}
 use Rattle.fragment_run.specs.RightDocument.{DocumentIsRight, PartIsRight}
 use Rattle.fragment_run.specs.SolveSettings.{SolveSettingsValue, solve_settings_of}
 use Rattle.fragment_run.specs.TextPromise.{TextPromise}
+use Rattle.fragment_run.specs.check.CheckPromise.{IsOutcome}
+use Rattle.fragment_run.specs.check.CheckPromise as check
 use Rattle.fragment_run.specs.declared.status.Status.{Status}
 use Rattle.fragment_run.specs.declared.status.Status.TheVariants.{Done, MgfRefused}
 
--- The text is read with this fault, and there is a right document for it: where they are told, what was written to the
--- document's slot is its spelling, and what was written to the report's slot the report of the same document.
+-- The text is read with this fault, and there is a right document for it, which has a spelling: where they are told, what
+-- was written to the document's slot is its spelling, which a check accepts, and what was written to the report's slot the
+-- report of the same document.
 pub record IsSolved (settings : SolveSettingsValue) (text : List ℕ) (fault : Option MgfFault)
     (written : Slot → Option (List ℕ)) : Type 0 where
   pub document : Document
   pub right : DocumentIsRight settings text fault document
+  pub good : IsGood document
   pub spelled : IfSome (written CertOut) (λ bytes. bytes ≡ spelling_of document)
   pub reported : IfSome (written Report) (λ bytes. bytes ≡ report_text_of document)
+  pub accepted : IfSome (written CertOut)
+      (λ bytes. IsOutcome settings text bytes (check.accepted (length document.sections) fault))
 
 -- which status answers a text, with which document and report
 abbrev pub SolveAnswers : SolveSettingsValue → List ℕ → Status → (Slot → Option (List ℕ)) → Type 0
@@ -38,7 +44,7 @@ solve_meaning settings text = record {
 }
 
 -- The promise of the command.
-abbrev pub SolvePromise : SolveNames → DeskState → DeskState → Status → Type 0
+abbrev pub SolvePromise : DocumentNames → DeskState → DeskState → Status → Type 0
 SolvePromise names before now status =
     TextPromise (λ profile text. solve_meaning (solve_settings_of profile names.adduct) text) names.profile
     names.spectra before now status

@@ -7,11 +7,10 @@ ghost use Rattle.tree_certificate.specs.Document.{section_lines, text_of};
 ghost use Rattle.tree_certificate.specs.declared.document.Section.{Section};
 ghost use Rattle.fragment_run.specs.Limits.{greatest_text_of};
 ghost use Rattle.fragment_run.specs.OneEach.{OneEach};
-ghost use Rattle.fragment_run.specs.RightSection.{SectionIsRight};
-ghost use Rattle.fragment_run.specs.inside.Made.{IsMade};
+ghost use Rattle.fragment_run.specs.inside.Made.{IsMade, IsMadeSection};
 ghost use Rattle.fragment_run.specs.inside.SettingsOf.{solve_settings_value_of};
 
-use crate::ending::ending_of;
+use crate::ending::{ending_is_good, ending_of};
 use crate::reading::read_all;
 use crate::settings::SolveSettings;
 use crate::solve::section::section_of;
@@ -46,6 +45,7 @@ pub fn solve_text(
     document.extend_from_slice(write_header())?;
     let mut report = Vec::new(alloc);
     push_sections(alloc, &mut document, &mut report, &mut reader, settings)?;
+    ending_is_good(fault);
     let ending = ending_of(fault);
     let end_line = write_ending(alloc, &ending)?;
     document.extend_from_slice(&end_line)?;
@@ -68,7 +68,7 @@ fn push_sections(
 ) -> Result<(), AllocError>
     requires peaks { settings.now.listing.choice.peaks ≤ 12 }
     ensures { OnOk result ((sections : List Section)
-        × OneEach (SectionIsRight (solve_settings_value_of settings.now)) reader.old.waiting sections
+        × OneEach (IsMadeSection (solve_settings_value_of settings.now)) reader.old.waiting sections
         × (document.new.items ≡ document.old.items ++ flat_map (λ section. text_of (section_lines section)) sections)
         × (report.new.items ≡ report.old.items ++ flat_map section_text_of sections)) }
 {
@@ -88,7 +88,7 @@ fn push_spectrum(
 ) -> Result<(), AllocError>
     requires peaks { settings.now.listing.choice.peaks ≤ 12 }
     ensures { OnOk result ((section : Section)
-        × SectionIsRight (solve_settings_value_of settings.now) spectrum section
+        × IsMadeSection (solve_settings_value_of settings.now) spectrum section
         × (document.new.items ≡ document.old.items ++ text_of (section_lines section))
         × (report.new.items ≡ report.old.items ++ section_text_of section)) }
 {

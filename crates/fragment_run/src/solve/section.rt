@@ -1,18 +1,22 @@
 //! The section of a spectrum: its lists and an entry for each candidate, or why it is skipped.
-ghost use Rattle.std.specs.Prelude.{◌≡◌, ◌≤◌, IfOk, length, map};
+ghost use Rattle.std.specs.Prelude.{◌≡◌, ◌≤◌, IfOk, IsTrue, length, map};
 ghost use Rattle.std.specs.List.{All};
+ghost use Rattle.element_table.specs.Formula.{IsFormula};
 ghost use Rattle.loss_graph.specs.Lists.{AreLists};
+ghost use Rattle.tree_certificate.specs.Document.{AreGoodLines, body_lines, entry_lines, section_lines};
+ghost use Rattle.tree_certificate.specs.Title.{are_bytes};
+ghost use Rattle.tree_certificate.specs.declared.document.Body.TheVariants as bodies;
 ghost use Rattle.fragment_run.specs.Candidates.{ion_of};
 ghost use Rattle.fragment_run.specs.RightSection.{IsRightEntry, SectionIsRight, SolvedIsRight};
 ghost use Rattle.fragment_run.specs.inside.Outlines.{AreOwnLists};
 ghost use Rattle.fragment_run.specs.inside.SettingsOf.{solve_settings_value_of};
 
+use crate::candidates::candidates;
 use crate::outline::{Outline, read_outline};
 use crate::settings::SolveSettings;
-use crate::solve::candidates::candidates;
 use crate::solve::entry::entry_of;
 use element_table::{Formula, FormulaList};
-use mgf_reader::Spectrum;
+use mgf_reader::{Spectrum, Title};
 use rank_report::{rank, ranked_entries_rise};
 use std::alloc::{AllocError, Global};
 use tree_certificate::{Body, Entries, Entry, FormulaLists, Section, Solved};
@@ -24,18 +28,30 @@ pub fn section_of(
     settings: &SolveSettings,
 ) -> Result<Section, AllocError>
     requires peaks { settings.now.listing.choice.peaks ≤ 12 }
-    ensures { IfOk result (λ section. SectionIsRight (solve_settings_value_of settings.now) spectrum section) }
+    ensures right { IfOk result (λ section. SectionIsRight (solve_settings_value_of settings.now) spectrum section) }
+    ensures good { IfOk result (λ section. AreGoodLines (section_lines section)) }
 {
     let body = match read_outline(alloc, &spectrum, &settings.listing)? {
         Outline::Skipped(reason) => Body::Skipped(reason),
         Outline::Listed(lists) => Body::Solved(solved_of(alloc, lists, settings)?),
     };
-    Ok(Section {
-        line: spectrum.line,
-        title: spectrum.title,
-        body,
-    })
+    Ok(section_with(spectrum.line, spectrum.title, body))
 }
+
+/// The section of a spectrum with this line, this title and what stands of it.
+fn section_with(line: u32, title: Title, body: Body) -> Section
+    requires { AreGoodLines (body_lines body) }
+    ensures section { result ≡ record { line = line; title = title; body = body } }
+    ensures good { AreGoodLines (section_lines result) }
+{
+    is_bytes(title.items());
+    Section { line, title, body }
+}
+
+/// Tells that a title is bytes, for proofs alone: it does nothing.
+fn is_bytes(title: &[u8])
+    ensures { IsTrue (are_bytes title.now) }
+{}
 
 /// The lists of a spectrum and the entries of its candidates, by rank.
 fn solved_of(
@@ -45,11 +61,13 @@ fn solved_of(
 ) -> Result<Solved, AllocError>
     requires own { AreOwnLists settings.now.listing.choice lists.items }
     requires few { length lists.items ≤ 13 }
-    ensures { IfOk result (λ solved. SolvedIsRight (solve_settings_value_of settings.now) lists.items solved) }
+    ensures right { IfOk result (λ solved. SolvedIsRight (solve_settings_value_of settings.now) lists.items solved) }
+    ensures good { IfOk result (λ solved. AreGoodLines (body_lines (bodies.Solved solved))) }
 {
     ranked_entries_rise();
     let candidates = candidates(alloc, lists[0].formulas.items(), settings)?;
     let mut entries = entries_of(alloc, &lists, &candidates, settings)?;
+    are_formulas(&lists);
     rank(alloc, &mut entries)?;
     Ok(Solved {
         lists: FormulaLists::of(lists),
@@ -70,6 +88,7 @@ fn entries_of(
     ensures right { IfOk result (λ entries.
         All (IsRightEntry (solve_settings_value_of settings.now) lists.now) entries.items) }
     ensures candidates { IfOk result (λ entries. map (λ entry. entry.candidate) entries.items ≡ candidates.now) }
+    ensures good { IfOk result (λ entries. All (λ entry. AreGoodLines (entry_lines entry)) entries.items) }
 {
     let mut entries = Vec::new(alloc);
     for candidate in candidates {
@@ -77,4 +96,13 @@ fn entries_of(
         entries.push(entry)?;
     }
     Ok(entries)
+}
+
+/// Tells what the formulas of lists are, for proofs alone: it does nothing.
+fn are_formulas(lists: &[FormulaList])
+    ensures { All (λ list. All IsFormula list.formulas) lists.now }
+{
+    for list in lists {
+        let _formulas = list.formulas.items();
+    }
 }

@@ -1,5 +1,5 @@
 -- How lines are taken one after another: what is needed is a list, the next need first.
-use Rattle.std.specs.Prelude.{◌≡◌, ◌++◌, ℕ, Bool, List, [], ◌∷◌, Option, Some, None, Result, Ok, Err, unwrap_or, if◌then◌else◌}
+use Rattle.std.specs.Prelude.{◌≡◌, ◌++◌, ℕ, List, [], ◌∷◌, Option, Some, None, if◌then◌else◌}
 use Rattle.mgf_reader.specs.Text.{ended_lines, unfinished_line}
 use Rattle.tree_certificate.specs.Document.{AreGoodLines, text_of}
 use Rattle.tree_certificate.specs.Line.{Line, in_range}

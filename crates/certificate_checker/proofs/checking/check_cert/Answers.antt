@@ -1,4 +1,4 @@
-use Rattle.std.proofs.Common.{◌≡◌, Ok, IfOk, arith, rules}
+use Rattle.std.proofs.Common.{IfOk, arith, rules}
 use Rattle.std.proofs.lemmas.Grind.{common_steps}
 use Rattle.std.proofs.lemmas.Result.{IfOk-at_ok}
 use Rattle.tree_certificate.specs.Value.{cert_of}

@@ -1,10 +1,10 @@
-use Rattle.std.proofs.Common.{◌≡◌, ◌≢◌, ◌∙◌, ◌+◌, ◌-◌, ◌^◌, ◌<◌, ◌≤◌, ℕ, ℤ, List, false, length, map, ap, sym, refl, arith, w32}
+use Rattle.std.proofs.Common.{◌≡◌, ◌∙◌, ◌-◌, ◌^◌, ◌<◌, ℕ, ℤ, List, length, map, ap, sym, refl, arith, w32}
 use Rattle.std.proofs.lemmas.Bool.{true≢false}
 use Rattle.std.proofs.lemmas.Int.{to_z-of_z}
 use Rattle.colour_graph.specs.declared.edge.Edge.{Edge}
 use Rattle.colour_graph.specs.Graph.{colour_count, colour_of, edge_at, head_colour}
 use Rattle.tree_certificate.specs.TableHolds.{row_at}
-use Rattle.certificate_checker.specs.inside.Enough.{AreGainsBelow, IsRaised, number_in}
+use Rattle.certificate_checker.specs.inside.Enough.{IsRaised, number_in}
 use Rattle.certificate_checker.proofs.PartWalk.{SFits-score, raised-as}
 use Rattle.certificate_checker.proofs.Raising.{gains-first, gains-last, gains-with, gains-without}
 use Rattle.certificate_checker.proofs.TableNumbers.{numbers-row, row-few}

@@ -1,4 +1,4 @@
-use Rattle.std.proofs.Common.{◌≡◌, ◌+◌, ◌<◌, ◌≤◌, ℤ, length, arith, refl, to_z, of_z, w32, w64, ◌∙◌}
+use Rattle.std.proofs.Common.{◌<◌, ℤ, length, arith, refl, w32, w64, ◌∙◌}
 use Rattle.std.proofs.Math.ListN.{length-set, set}
 use Rattle.std.proofs.lemmas.Int.{to_z-of_z}
 use Rattle.certificate_checker.specs.inside.Enough.{AreGainsBelow, IsRaised, number_in}

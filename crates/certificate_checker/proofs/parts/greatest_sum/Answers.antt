@@ -1,4 +1,4 @@
-use Rattle.std.proofs.Common.{ℕ, ◌≡◌, ◌+◌, ◌-◌, ◌<◌, ◌≤◌, ℤ, length, arith, refl, to_z, w64, SFits}
+use Rattle.std.proofs.Common.{◌-◌, ◌<◌, length, arith, refl, to_z, w64}
 use Rattle.std.proofs.lemmas.Int.{to_z-of_z}
 use Rattle.std.proofs.lemmas.Nat.{and_le_r}
 use Rattle.certificate_checker.specs.inside.Enough.{IsRaised, number_in}

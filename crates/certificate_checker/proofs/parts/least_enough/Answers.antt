@@ -1,4 +1,4 @@
-use Rattle.std.proofs.Common.{w64, ◌<◌, ℕ, length, arith}
+use Rattle.std.proofs.Common.{w64, length}
 use Rattle.std.proofs.lemmas.Int.{to_z-of_z}
 use Rattle.certificate_checker.specs.inside.Enough.{number_in}
 use Rattle.certificate_checker.proofs.PartWalk.{SFits-number, enough-none}

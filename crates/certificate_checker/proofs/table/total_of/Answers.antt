@@ -1,8 +1,8 @@
-use Rattle.std.proofs.Common.{◌≡◌, ◌-◌, ◌<◌, ◌≤◌, ◌∙◌, ℕ, ℤ, ◌+ℤ◌, List, true, length, map, replicate, ap, sym, arith, of_z, rules, to_z, SFits, w32, w64}
+use Rattle.std.proofs.Common.{◌≡◌, ◌-◌, ◌<◌, ◌∙◌, ℤ, ◌+ℤ◌, List, true, length, map, replicate, ap, sym, arith, of_z, to_z, SFits, w32, w64}
 use Rattle.std.proofs.lemmas.Int.{to_z-of_z}
 use Rattle.std.proofs.lemmas.List.{length-map}
 use Rattle.colour_graph.specs.Graph.{IsScore, colour_count}
-use Rattle.tree_certificate.specs.TableHolds.{number_at, number_of, row_at, row_length}
+use Rattle.tree_certificate.specs.TableHolds.{number_at, number_of, row_length}
 use Rattle.certificate_checker.specs.inside.Enough.{IsNumber, number_in}
 use Rattle.certificate_checker.proofs.PartWalk.{SFits-number, SFits-score, SFits-total}
 use Rattle.certificate_checker.proofs.TableNumbers.{numbers-row, place-last, row-some}

@@ -1,13 +1,86 @@
-use Rattle.std.proofs.Common.{◌≡◌, ◌∙◌, ◌+◌, ◌-◌, ◌<◌, ◌≤◌, ℕ, ℤ, pos, ◌≤ℤ◌, List, length, drop, length-append, length-drop, map, ap, refl, arith, rules, w64}
+use Rattle.std.proofs.Common.{◌≡◌, ◌∙◌, ◌+◌, ◌-◌, ℤ, pos, List, length-append, length-drop, length-take, map, ap, refl, arith, w64}
 use Rattle.std.proofs.lemmas.Grind.{common_steps}
 use Rattle.std.proofs.lemmas.Int.{to_z-of_z}
 use Rattle.colour_graph.specs.Graph.{colour_count, colour_of}
 use Rattle.tree_certificate.specs.TableHolds.{number_at, row_at}
+use Rattle.tree_certificate.proofs.SetParts.{powers-rise}
 use Rattle.certificate_checker.specs.inside.Enough.{IsNumber, number_in}
 use Rattle.certificate_checker.proofs.LowPlaces.{found_earlier, found_of_vertex}
 use Rattle.certificate_checker.proofs.PartWalk.{SFits-number, not_less-as}
 use Rattle.certificate_checker.proofs.TableNumbers.{numbers-row, row-some}
 use Rattle.certificate_checker.proofs.vertex.first_low_of.Goals as goal
+
+pub slice_bounds-first_low_of_size-end : goal.slice_bounds-first_low_of_size-end
+slice_bounds-first_low_of_size-end c =
+    omega (
+      arith,
+      length-take {A = ℤ},
+      c.loop-size.invariant.own,
+      c.loop-size.invariant.gains,
+      powers-rise c.loop-size.size (colour_count c.args.graph.now)
+          (omega (arith, c.colour_count.ensures, c.colour_of.ensures.colour, c.from-2.ensures)),
+      c.sets_of-sets.ensures.sets,
+    )
+
+pub slice_bounds-first_low_of_size-end-in-loop-size : goal.slice_bounds-first_low_of_size-end-in-loop-size
+slice_bounds-first_low_of_size-end-in-loop-size c =
+    omega (
+      arith,
+      length-take {A = ℤ},
+      c.loop-size.invariant.own,
+      c.loop-size.invariant.gains,
+      powers-rise c.loop-size.size (colour_count c.args.graph.now)
+          (omega (arith, c.colour_count.ensures, c.colour_of.ensures.colour, c.from-2.ensures)),
+      c.sets_of-sets.ensures.sets,
+    )
+
+pub slice_bounds-first_low_of_size-end-in-loop-size-2 : goal.slice_bounds-first_low_of_size-end-in-loop-size-2
+slice_bounds-first_low_of_size-end-in-loop-size-2 c =
+    omega (
+      arith,
+      length-take {A = ℤ},
+      c.loop-size.invariant.own,
+      c.loop-size.invariant.gains,
+      powers-rise c.loop-size.size (colour_count c.args.graph.now)
+          (omega (arith, c.colour_count.ensures, c.colour_of.ensures.colour, c.from-2.ensures)),
+      c.sets_of-sets.ensures.sets,
+    )
+
+pub slice_bounds-first_low_of_size-end-in-loop-size-3 : goal.slice_bounds-first_low_of_size-end-in-loop-size-3
+slice_bounds-first_low_of_size-end-in-loop-size-3 c =
+    omega (
+      arith,
+      length-take {A = ℤ},
+      c.loop-size.invariant.own,
+      c.loop-size.invariant.gains,
+      powers-rise c.loop-size.size (colour_count c.args.graph.now)
+          (omega (arith, c.colour_count.ensures, c.colour_of.ensures.colour, c.from-2.ensures)),
+      c.sets_of-sets.ensures.sets,
+    )
+
+pub first_low_of_size-found-requires-clause-own : goal.first_low_of_size-found-requires-clause-own
+first_low_of_size-found-requires-clause-own c =
+    omega (
+      arith,
+      length-take {A = ℤ},
+      c.loop-size.invariant.own,
+      c.loop-size.invariant.gains,
+      powers-rise c.loop-size.size (colour_count c.args.graph.now)
+          (omega (arith, c.colour_count.ensures, c.colour_of.ensures.colour, c.from-2.ensures)),
+      c.sets_of-sets.ensures.sets,
+    )
+
+pub first_low_of_size-found-requires-clause-gains : goal.first_low_of_size-found-requires-clause-gains
+first_low_of_size-found-requires-clause-gains c =
+    omega (
+      arith,
+      length-take {A = ℤ},
+      c.loop-size.invariant.own,
+      c.loop-size.invariant.gains,
+      powers-rise c.loop-size.size (colour_count c.args.graph.now)
+          (omega (arith, c.colour_count.ensures, c.colour_of.ensures.colour, c.from-2.ensures)),
+      c.sets_of-sets.ensures.sets,
+    )
 
 pub loop-size-preserved : goal.loop-size-preserved
 loop-size-preserved c =

@@ -1,4 +1,4 @@
-use Rattle.std.proofs.Common.{◌≡◌, ◌∙◌, ◌+◌, ◌-◌, ◌*◌, ◌^◌, ◌<◌, ◌≤◌, ℕ, ℤ, suc, List, length, map, ap, sym, refl, arith}
+use Rattle.std.proofs.Common.{◌≡◌, ◌∙◌, ◌+◌, ◌-◌, ◌*◌, ◌^◌, ◌<◌, ◌≤◌, ℕ, ℤ, suc, List, length, map, ap, sym, arith}
 use Rattle.colour_graph.specs.Graph.{Graph, colour_count, colour_of}
 use Rattle.tree_certificate.specs.Number.{AreNumbers}
 use Rattle.tree_certificate.specs.TableHolds.{FitsGraph, row_at, row_length}

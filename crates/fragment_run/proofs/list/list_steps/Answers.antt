@@ -7,6 +7,7 @@ use Rattle.fragment_run.specs.Orders.{text_begins}
 use Rattle.fragment_run.specs.declared.status.Status.TheVariants.{Done, MgfRefused}
 use Rattle.fragment_run.proofs.Running.{at_some, memory_ends_all}
 use Rattle.fragment_run.proofs.ListPromise.{done_lists, partly_lists, refused_lists}
+use Rattle.fragment_run.proofs.TextSteps.{whole_alone}
 use Rattle.fragment_run.proofs.list.list_steps.Goals as goal
 
 pub returns-in_err-text-clause-ends : goal.returns-in_err-text-clause-ends
@@ -42,7 +43,8 @@ returns-in_err-write_report-clause-text g c =
 pub returns-in-None-clause-ends : goal.returns-in-None-clause-ends
 returns-in-None-clause-ends g c = λ done before runs whole.
     c.in_ok-write_report.ensures.ended (done ++ text_begins c.args.name.now None) before (c.in_ok-text.ensures.runs done before runs)
-    (c.in_ok-text.ensures.whole done before runs whole) Done refl
+    (whole_alone done before (g.D.Desk.state c.read_spectra.new.desk) c.args.name.now
+    (c.in_ok-text.ensures.whole done before runs whole)) Done refl
 
 pub returns-in-None-clause-text : goal.returns-in-None-clause-text
 returns-in-None-clause-text g c =
@@ -56,7 +58,8 @@ returns-in-None-clause-text g c =
 pub returns-clause-ends : goal.returns-clause-ends
 returns-clause-ends g c = λ done before runs whole.
     c.in_ok-write_report.ensures.ended (done ++ text_begins c.args.name.now None) before (c.in_ok-text.ensures.runs done before runs)
-    (c.in_ok-text.ensures.whole done before runs whole) (MgfRefused c.in-Some.fault) refl
+    (whole_alone done before (g.D.Desk.state c.read_spectra.new.desk) c.args.name.now
+    (c.in_ok-text.ensures.whole done before runs whole)) (MgfRefused c.in-Some.fault) refl
 
 pub returns-clause-text : goal.returns-clause-text
 returns-clause-text g c =

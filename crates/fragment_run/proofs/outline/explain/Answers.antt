@@ -6,6 +6,7 @@ use Rattle.loss_graph.specs.Lists.{IsList}
 use Rattle.fragment_run.specs.Outline.{lists_of}
 use Rattle.fragment_run.specs.inside.SettingsOf.{settings_value_of}
 use Rattle.fragment_run.proofs.AreOwnLists.{own_lists}
+use Rattle.fragment_run.proofs.GoodSections.{too_many_is_good}
 use Rattle.fragment_run.proofs.outline.explain.Goals as goal
 
 pub loop-peak-preserved : goal.loop-peak-preserved
@@ -24,3 +25,12 @@ returns-clause-lists g c =
     (c.loop-peak.invariant.own
     ∙ ap (lists_of (settings_value_of c.args.settings.now) c.args.precursor) (take_all c.loop-peak.peak-index c.args.selected.now (omega arith)))
     c.loop-peak.invariant.each c.requires.apart.1
+
+pub returns-then-not-branch-clause-reason : goal.returns-then-not-branch-clause-reason
+returns-then-not-branch-clause-reason g c = too_many_is_good c.args.precursor c.requires.measured
+
+pub returns-then-not-branch-2-clause-explained : goal.returns-then-not-branch-2-clause-explained
+returns-then-not-branch-2-clause-explained g c = grind (arith, common_steps)
+
+pub returns-then-not-branch-2-clause-reason : goal.returns-then-not-branch-2-clause-reason
+returns-then-not-branch-2-clause-reason g c = too_many_is_good c.peak.inside.mz c.peak.invariant.0

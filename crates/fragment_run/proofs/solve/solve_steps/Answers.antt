@@ -3,10 +3,11 @@ use Rattle.std.proofs.lemmas.Option.{MatchOption-at_some}
 use Rattle.std.proofs.lemmas.Result.{err_from_is_err_and}
 use Rattle.frag_io.specs.declared.desk.Slot.TheVariants.{Spectra, Report, CertOut}
 use Rattle.fragment_run.specs.Limits.{greatest_text_of}
-use Rattle.fragment_run.specs.Orders.{text_begins}
+use Rattle.fragment_run.specs.Orders.{text_begins, written_begin}
 use Rattle.fragment_run.specs.declared.status.Status.TheVariants.{Done, MgfRefused}
 use Rattle.fragment_run.proofs.Running.{at_some, memory_ends_all}
 use Rattle.fragment_run.proofs.SolvePromise.{done_solves, partly_solves, refused_solves}
+use Rattle.fragment_run.proofs.TextSteps.{whole_written}
 use Rattle.fragment_run.proofs.solve.solve_steps.Goals as goal
 
 pub returns-in_err-text-clause-ends : goal.returns-in_err-text-clause-ends
@@ -17,14 +18,14 @@ returns-in_err-text-clause-ends g c = λ done before runs whole.
 pub returns-in_err-solution-clause-ends : goal.returns-in_err-solution-clause-ends
 returns-in_err-solution-clause-ends g c = λ done before runs whole.
     let p = err_from_is_err_and c.from_residual-in_err-solution.result c.from_residual-in_err-solution.ensures.1 in
-    rw (p.1, p.2) (memory_ends_all (done ++ text_begins c.args.name.now (Some c.args.document.now)) before
+    rw (p.1, p.2) (memory_ends_all (done ++ text_begins c.args.name.now (Some (written_begin c.args.document.now))) before
     (g.D.Desk.state c.read_spectra.new.desk) (c.in_ok-text.ensures.runs done before runs))
 
 pub returns-in_err-write_outputs-clause-ends : goal.returns-in_err-write_outputs-clause-ends
 returns-in_err-write_outputs-clause-ends g c = λ done before runs whole.
     let p = err_from_is_err_and c.from_residual-in_err-write_outputs.result c.from_residual-in_err-write_outputs.ensures.1 in
-    rw (p.1, p.2) (c.in_err-write_outputs.ensures.ends (done ++ text_begins c.args.name.now (Some c.args.document.now)) before
-    (c.in_ok-text.ensures.runs done before runs))
+    rw (p.1, p.2) (c.in_err-write_outputs.ensures.ends
+    (done ++ text_begins c.args.name.now (Some (written_begin c.args.document.now))) before (c.in_ok-text.ensures.runs done before runs))
 
 pub returns-in_err-write_outputs-clause-text : goal.returns-in_err-write_outputs-clause-text
 returns-in_err-write_outputs-clause-text g c =
@@ -41,9 +42,10 @@ returns-in_err-write_outputs-clause-text g c =
 
 pub returns-in-None-clause-ends : goal.returns-in-None-clause-ends
 returns-in-None-clause-ends g c = λ done before runs whole.
-    c.in_ok-write_outputs.ensures.ended (done ++ text_begins c.args.name.now (Some c.args.document.now)) before
+    c.in_ok-write_outputs.ensures.ended (done ++ text_begins c.args.name.now (Some (written_begin c.args.document.now))) before
     (c.in_ok-text.ensures.runs done before runs)
-    (c.in_ok-text.ensures.whole done before runs whole) Done refl
+    (whole_written done before (g.D.Desk.state c.read_spectra.new.desk) c.args.name.now c.args.document.now
+    (c.in_ok-text.ensures.whole done before runs whole)) Done refl
 
 pub returns-in-None-clause-text : goal.returns-in-None-clause-text
 returns-in-None-clause-text g c =
@@ -58,9 +60,10 @@ returns-in-None-clause-text g c =
 
 pub returns-clause-ends : goal.returns-clause-ends
 returns-clause-ends g c = λ done before runs whole.
-    c.in_ok-write_outputs.ensures.ended (done ++ text_begins c.args.name.now (Some c.args.document.now)) before
+    c.in_ok-write_outputs.ensures.ended (done ++ text_begins c.args.name.now (Some (written_begin c.args.document.now))) before
     (c.in_ok-text.ensures.runs done before runs)
-    (c.in_ok-text.ensures.whole done before runs whole) (MgfRefused c.in-Some.fault) refl
+    (whole_written done before (g.D.Desk.state c.read_spectra.new.desk) c.args.name.now c.args.document.now
+    (c.in_ok-text.ensures.whole done before runs whole)) (MgfRefused c.in-Some.fault) refl
 
 pub returns-clause-text : goal.returns-clause-text
 returns-clause-text g c =

@@ -1,9 +1,5 @@
 use Rattle.std.proofs.Common.{append-nil}
-use Rattle.fragment_run.proofs.TextSteps.{others_begun}
 use Rattle.fragment_run.proofs.text_steps.begin_document.Goals as goal
 
 pub returns-in-None-clause-runs : goal.returns-in-None-clause-runs
 returns-in-None-clause-runs g c = λ done before runs. rw (c.in-None.is, append-nil done) runs
-
-pub returns-in-Some-clause-others : goal.returns-in-Some-clause-others
-returns-in-Some-clause-others g c = others_begun c.begin_slot.result _ _ _ c.begin_slot.ensures.ok c.begin_slot.ensures.err

@@ -1,8 +1,8 @@
-use Rattle.std.proofs.Common.{◌≡◌, ◌+◌, ◌-◌, ◌*◌, ◌<◌, ◌≤◌, ℕ, ℤ, arith, ◌∙◌, ap, sym, subst, map, inl, inr, of_z, to_z, w64, length, List, Bool, ◌∷◌, true}
+use Rattle.std.proofs.Common.{◌≡◌, ◌+◌, ◌*◌, ◌<◌, ℕ, arith, ◌∙◌, ap, sym, subst, map, inl, inr, of_z, to_z, w64, length, ◌∷◌, true}
 use Rattle.std.proofs.lemmas.Bool.{cases_eq}
 use Rattle.std.proofs.lemmas.Int.{ints}
 use Rattle.colour_graph.specs.declared.edge.Edge.{Edge}
-use Rattle.colour_graph.specs.Graph.{colour_count, colour_of, edge_at}
+use Rattle.colour_graph.specs.Graph.{colour_count, edge_at}
 use Rattle.subset_tree.specs.inside.Rebuilding.{IsChoice, IsMissed}
 use Rattle.subset_tree.proofs.Reaching.{before_more, colour_behind, one_reaches}
 use Rattle.subset_tree.proofs.Reading.{place_more}

@@ -1,6 +1,6 @@
-use Rattle.std.proofs.Common.{◌≡◌, ◌+◌, ◌-◌, ◌<◌, ◌≤◌, ◌∙◌, ap, drop, get_or}
+use Rattle.std.proofs.Common.{◌+◌, ◌∙◌, ap, drop, get_or}
 use Rattle.colour_graph.specs.declared.edge.Edge.{Edge}
-use Rattle.colour_graph.specs.Graph.{colour_count, edge_at}
+use Rattle.colour_graph.specs.Graph.{colour_count}
 use Rattle.subset_tree.specs.inside.Rebuilding.{given, owned}
 use Rattle.subset_tree.proofs.Passing.{owned_at, owned_below, owned_long, put_same, rest_of, step_from}
 use Rattle.subset_tree.proofs.rebuilding.decide.Goals as goal

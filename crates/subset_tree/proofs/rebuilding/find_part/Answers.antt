@@ -1,10 +1,8 @@
-use Rattle.std.proofs.Common.{◌≡◌, ◌+◌, ◌-◌, ◌*◌, ◌<◌, ℤ, ◌+ℤ◌, arith, ◌∙◌, ap, ap₂, of_z, to_z, w64, sym, refl, map, inl, inr, bit_and, length, ◌⊎◌, List, Bool, ◌∷◌, true}
+use Rattle.std.proofs.Common.{◌≡◌, ◌+◌, ◌<◌, ◌+ℤ◌, arith, ◌∙◌, ap, ap₂, of_z, to_z, w64, sym, refl, inl, inr, bit_and, length}
 use Rattle.std.proofs.lemmas.Bool.{cases_eq}
 use Rattle.std.proofs.lemmas.Int.{ints}
-use Rattle.tree_certificate.specs.ColourSet.{IsPartOf, place_of}
-use Rattle.tree_certificate.specs.TableHolds.{number_of}
-use Rattle.colour_graph.specs.Graph.{edge_at, colour_count}
-use Rattle.subset_tree.specs.inside.Rebuilding.{sum_with}
+use Rattle.tree_certificate.specs.ColourSet.{place_of}
+use Rattle.colour_graph.specs.Graph.{colour_count}
 use Rattle.subset_tree.proofs.Owned.{length-part}
 use Rattle.subset_tree.proofs.Places.{and_part, part_at, place-without}
 use Rattle.subset_tree.proofs.Reaching.{number_is, some_colour, sum_is}

@@ -6,7 +6,7 @@ use Rattle.subset_tree.proofs.Owned.{length-owned}
 use Rattle.subset_tree.proofs.Places.{added_hit, added_miss, hit_fits, next_power, place-hit, place-miss}
 use Rattle.subset_tree.proofs.rebuilding.place_owned.Goals as goal
 use Rattle.subset_tree.proofs.rebuilding.place_owned.Goals.{else-owner-vertex, then-owner-vertex}
-use Rattle.std.proofs.Common.{arith, ◌<◌, ◌+◌, ◌^◌, ◌≤◌, rules}
+use Rattle.std.proofs.Common.{arith, ◌<◌, ◌+◌, ◌^◌}
 
 pub overflow_add-place : goal.overflow_add-place
 overflow_add-place c =

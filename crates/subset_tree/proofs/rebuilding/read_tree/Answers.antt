@@ -1,6 +1,6 @@
-use Rattle.std.proofs.Common.{◌≡◌, ◌+◌, ◌-◌, ◌<◌, ◌≤◌, ◌++◌, ◌∷◌, [], ℕ, List, arith, ◌∙◌, ap, sym, subst, map, length, drop, take, get_or, refl, inl}
+use Rattle.std.proofs.Common.{◌≡◌, ◌+◌, ◌<◌, ◌≤◌, ◌++◌, ◌∷◌, [], ℕ, List, arith, ◌∙◌, ap, sym, subst, map, length, drop, get_or}
 use Rattle.std.proofs.lemmas.List.{length-replicate}
-use Rattle.colour_graph.specs.Graph.{colour_count, colour_of}
+use Rattle.colour_graph.specs.Graph.{colour_of}
 use Rattle.subset_tree.proofs.Passing.{written}
 use Rattle.subset_tree.proofs.Standing.{Standing, at_last_colourful, at_last_rising, at_last_score, first_standing, seat_of_next, standing_left, standing_step, when_decided}
 use Rattle.subset_tree.proofs.rebuilding.read_tree.Goals as goal

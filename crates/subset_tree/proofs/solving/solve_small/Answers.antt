@@ -1,4 +1,4 @@
-use Rattle.std.proofs.Common.{◌≡◌, ◌≤ℤ◌, ℤ, List, ap, map, subst, sym, ◌∙◌, IfSome}
+use Rattle.std.proofs.Common.{ℤ, List, ap, map, subst, sym, ◌∙◌}
 use Rattle.colour_graph.specs.Colourful.{score_of}
 use Rattle.colour_graph.specs.EdgeSet.{all_edges}
 use Rattle.tree_certificate.specs.TableHolds.{TableHolds, table_total}

@@ -1,7 +1,7 @@
-use Rattle.std.proofs.Common.{◌≡◌, ◌+◌, ◌-◌, ◌^◌, ◌<◌, ◌≤◌, ℕ, ℤ, List, length, map, slice_set, arith, ap, subst, ◌∙◌}
+use Rattle.std.proofs.Common.{◌≡◌, ◌+◌, ◌-◌, ◌<◌, ℕ, ℤ, List, length, map, slice_set, arith, ap, subst, ◌∙◌}
 use Rattle.std.proofs.lemmas.List.{with_items_is}
 use Rattle.subset_tree.specs.inside.Filling.{AreFilledFrom}
-use Rattle.subset_tree.proofs.Filled.{AreNumbers-filled, IsExact-filled, IsSetRow-map, filled-row}
+use Rattle.subset_tree.proofs.Filled.{AreNumbers-filled, IsSetRow-map, filled-row}
 use Rattle.subset_tree.proofs.table.fill_table.Goals as goal
 
 pub loop-vertex-preserved : goal.loop-vertex-preserved

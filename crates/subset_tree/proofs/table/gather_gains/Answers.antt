@@ -1,9 +1,8 @@
-use Rattle.std.proofs.Common.{◌≡◌, ◌+◌, ◌-◌, ◌^◌, ◌<◌, ◌≤◌, ℕ, ℤ, true, false, List, length, map, get_or, arith, refl, sym, ap, w32, ◌∙◌}
+use Rattle.std.proofs.Common.{◌≡◌, ◌-◌, true, false, map, arith, sym, w32, ◌∙◌}
 use Rattle.std.proofs.lemmas.Int.{to_z-of_z}
-use Rattle.colour_graph.specs.Graph.{colour_count, colour_of}
-use Rattle.tree_certificate.specs.TableHolds.{row_at}
+use Rattle.colour_graph.specs.Graph.{colour_count}
 use Rattle.subset_tree.proofs.Gaining.{fits-weight, gained-all, gained-first, gained-more, gained-other, head_row}
-use Rattle.subset_tree.proofs.Parts.{powers-le}
+use Rattle.tree_certificate.proofs.SetParts.{powers-le}
 use Rattle.subset_tree.proofs.table.gather_gains.Goals as goal
 use Rattle.subset_tree.proofs.table.gather_gains.Goals.{then-edge-vertex, else-edge-vertex}
 

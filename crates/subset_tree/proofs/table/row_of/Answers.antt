@@ -1,8 +1,8 @@
-use Rattle.std.proofs.Common.{◌≡◌, ◌+◌, ◌-◌, ◌*◌, ◌^◌, ◌<◌, ◌≤◌, ℕ, suc, ℤ, List, length, map, take, drop, ◌++◌, arith, sym, ap, ◌∙◌, pow-suc, length-append, length-drop}
+use Rattle.std.proofs.Common.{◌≡◌, ◌-◌, ◌*◌, ◌^◌, ◌≤◌, ℕ, suc, ℤ, List, length, map, drop, ◌++◌, arith, sym, ap, ◌∙◌, pow-suc, length-append, length-drop}
 use Rattle.std.proofs.lemmas.List.{length-take-le, with_items_is}
-use Rattle.colour_graph.specs.Graph.{colour_count, colour_of}
+use Rattle.colour_graph.specs.Graph.{colour_count}
 use Rattle.subset_tree.proofs.Filled.{filled-more}
-use Rattle.subset_tree.proofs.Parts.{powers-rise}
+use Rattle.tree_certificate.proofs.SetParts.{powers-rise}
 use Rattle.subset_tree.proofs.table.row_of.Goals as goal
 
 pub slice_bounds-here-end : goal.slice_bounds-here-end

@@ -1,5 +1,4 @@
-use Rattle.std.proofs.Common.{◌≡◌, ◌≤◌, ◌^◌, arith}
-use Rattle.subset_tree.proofs.Parts.{powers-le, shifted-is}
+use Rattle.tree_certificate.proofs.SetParts.{powers-le, shifted-is}
 use Rattle.subset_tree.proofs.table.set_count.Goals as goal
 
 pub returns-clause-count : goal.returns-clause-count

@@ -1,4 +1,3 @@
-use Rattle.std.proofs.Common.{sym}
 use Rattle.tree_certificate.specs.inside.Head.{body_head_line}
 use Rattle.tree_certificate.specs.inside.Need.{need_body}
 use Rattle.tree_certificate.proofs.FirstLines.{head_bad, head_big, head_end, head_took}

@@ -1,4 +1,4 @@
-use Rattle.std.proofs.Common.{◌≡◌, ◌∙◌, None, refl, sym, ap}
+use Rattle.std.proofs.Common.{None, ap}
 use Rattle.tree_certificate.specs.Line as spec
 use Rattle.tree_certificate.specs.inside.Need.{need_cert, or_else}
 use Rattle.tree_certificate.proofs.FirstLines.{head_bad, head_big, head_end, head_took}

@@ -1,7 +1,7 @@
-use Rattle.std.proofs.Common.{◌≡◌, ◌∙◌, None, refl, sym, ap}
+use Rattle.std.proofs.Common.{None, refl, ap}
 use Rattle.tree_certificate.specs.Line as spec
 use Rattle.tree_certificate.specs.inside.Need.{need_document, or_else}
-use Rattle.tree_certificate.proofs.FirstLines.{head_bad, head_big, head_end, head_took}
+use Rattle.tree_certificate.proofs.FirstLines.{head_bad, head_end, head_took}
 use Rattle.tree_certificate.proofs.heads.document_head.Goals as goal
 
 pub returns-in_default : goal.returns-in_default

@@ -1,4 +1,3 @@
-use Rattle.std.proofs.Common.{sym}
 use Rattle.tree_certificate.specs.inside.Head.{entry_head_line}
 use Rattle.tree_certificate.specs.inside.Need.{need_entry}
 use Rattle.tree_certificate.proofs.FirstLines.{head_bad, head_big, head_end, head_took}

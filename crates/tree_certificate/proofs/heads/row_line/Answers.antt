@@ -1,4 +1,4 @@
-use Rattle.std.proofs.Common.{◌≡◌, ◌∷◌, [], None, sym, ap, subst}
+use Rattle.std.proofs.Common.{◌∷◌, [], None, sym, ap, subst}
 use Rattle.tree_certificate.specs.Line as spec
 use Rattle.tree_certificate.specs.inside.Head.{row_fields_line}
 use Rattle.tree_certificate.specs.inside.Need.{follow, need_row, or_else}

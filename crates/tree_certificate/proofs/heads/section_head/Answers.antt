@@ -1,4 +1,4 @@
-use Rattle.std.proofs.Common.{◌≡◌, ◌∙◌, sym, ap}
+use Rattle.std.proofs.Common.{◌∙◌, sym, ap}
 use Rattle.std.specs.Option.{option_map}
 use Rattle.tree_certificate.specs.inside.Head.{section_head_line}
 use Rattle.tree_certificate.specs.inside.Need.{need_sections}

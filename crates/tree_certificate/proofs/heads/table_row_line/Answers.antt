@@ -1,4 +1,4 @@
-use Rattle.std.proofs.Common.{◌≡◌, ◌∙◌, None, Some, sym, ap}
+use Rattle.std.proofs.Common.{◌∙◌, None, sym, ap}
 use Rattle.std.specs.Option.{option_map}
 use Rattle.tree_certificate.specs.Line as spec
 use Rattle.tree_certificate.specs.inside.Need.{need_table_row, or_else}

@@ -1,5 +1,5 @@
 use Rattle.tree_certificate.proofs.FieldKinds.{Known}
-use Rattle.tree_certificate.proofs.Running.{IsTaken, taken}
+use Rattle.tree_certificate.proofs.Running.{taken}
 use Rattle.tree_certificate.proofs.laws.a_line_has_one_spelling.Goals as goal
 
 pub returns : goal.returns

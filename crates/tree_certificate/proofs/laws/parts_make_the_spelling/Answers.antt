@@ -1,4 +1,4 @@
-use Rattle.std.proofs.Common.{◌≡◌, ◌∙◌, ◌++◌, [], ◌∷◌, ap}
+use Rattle.std.proofs.Common.{◌∙◌, ◌++◌, [], ◌∷◌, ap}
 use Rattle.std.specs.List.{flat_map}
 use Rattle.tree_certificate.specs.Document.{ending_line, section_lines, text_of}
 use Rattle.tree_certificate.specs.Line.{header_line}

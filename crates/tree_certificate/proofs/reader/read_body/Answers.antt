@@ -1,11 +1,10 @@
-use Rattle.std.proofs.Common.{◌≡◌, ◌∙◌, ◌++◌, List, ℕ, [], ◌∷◌, ap, length, map, refl, subst, sym}
+use Rattle.std.proofs.Common.{◌≡◌, ◌∙◌, ◌++◌, List, [], ◌∷◌, ap, length, subst, sym}
 use Rattle.std.specs.Prelude.{replicate}
-use Rattle.std.specs.List.{flat_map, list_all}
-use Rattle.tree_certificate.specs.Line.{Line, done_line, entries_line, lists_line, row_line, table_line, table_row_line, tree_line}
-use Rattle.tree_certificate.specs.Document.{body_lines, cert_lines, entry_lines, list_lines}
-use Rattle.tree_certificate.specs.Value.{cert_of, TreeValue}
-use Rattle.tree_certificate.specs.inside.Head.{body_head_line, entry_head_line}
-use Rattle.tree_certificate.specs.inside.Need.{follow, need_body, need_cert, need_done, need_entries, need_entry, need_list, need_row, need_table_row}
+use Rattle.std.specs.List.{flat_map}
+use Rattle.tree_certificate.specs.Line.{Line, entries_line, lists_line}
+use Rattle.tree_certificate.specs.Document.{entry_lines, list_lines}
+use Rattle.tree_certificate.specs.inside.Head.{body_head_line}
+use Rattle.tree_certificate.specs.inside.Need.{follow, need_body, need_entries, need_list}
 use Rattle.tree_certificate.specs.inside.Verdict.{Took, next_needs}
 use Rattle.tree_certificate.proofs.Sequence.{last_stops, last_took, then_took}
 use Rattle.tree_certificate.proofs.reader.read_body.Goals as goal

@@ -1,12 +1,9 @@
-use Rattle.std.proofs.Common.{◌≡◌, ◌∙◌, ◌++◌, List, ℕ, [], ◌∷◌, ap, length, map, refl, subst, sym}
+use Rattle.std.proofs.Common.{◌≡◌, ◌∙◌, List, [], ◌∷◌, ap, length, map, subst, sym}
 use Rattle.std.specs.Prelude.{replicate}
-use Rattle.std.specs.List.{flat_map, list_all}
-use Rattle.tree_certificate.specs.Line.{Line, done_line, entries_line, lists_line, row_line, table_line, table_row_line, tree_line}
-use Rattle.tree_certificate.specs.Document.{body_lines, cert_lines, entry_lines, list_lines}
-use Rattle.tree_certificate.specs.Value.{cert_of, TreeValue}
-use Rattle.tree_certificate.specs.inside.Head.{body_head_line, entry_head_line}
-use Rattle.tree_certificate.specs.inside.Need.{follow, need_body, need_cert, need_done, need_entries, need_entry, need_list, need_row, need_table_row}
-use Rattle.tree_certificate.specs.inside.Verdict.{Took, next_needs}
+use Rattle.std.specs.List.{list_all}
+use Rattle.tree_certificate.specs.Line.{Line, table_line, table_row_line}
+use Rattle.tree_certificate.specs.inside.Need.{need_cert, need_table_row}
+use Rattle.tree_certificate.specs.inside.Verdict.{Took}
 use Rattle.std.proofs.lemmas.List.{length-map}
 use Rattle.tree_certificate.specs.Number.{greatest_number, is_near}
 use Rattle.tree_certificate.proofs.Mapped.{list_all-map}

@@ -1,4 +1,4 @@
-use Rattle.std.proofs.Common.{◌≡◌, ◌&&◌, ◌++◌, ◌∙◌, ap, arith, sym, List, ℕ, true}
+use Rattle.std.proofs.Common.{◌≡◌, ◌&&◌, ◌++◌, ◌∙◌, ap, arith, sym, true}
 use Rattle.std.specs.Str.{bytes_eq}
 use Rattle.tree_certificate.specs.Title.{are_bytes, escaped}
 use Rattle.tree_certificate.proofs.Titles.{fit_bytes}

@@ -1,4 +1,4 @@
-use Rattle.std.proofs.Common.{◌≡◌, ◌∙◌, ◌++◌, ◌∷◌, ap, length, map}
+use Rattle.std.proofs.Common.{◌∙◌, ◌++◌, ◌∷◌, ap, length, map}
 use Rattle.tree_certificate.specs.Document.{cert_lines, text_of}
 use Rattle.tree_certificate.specs.Line as spec
 use Rattle.tree_certificate.specs.Value.{cert_of}

@@ -26,4 +26,4 @@ returns g c =
     ∙ ap (λ (ending : Ending). report ++ ending_text_of ending) c.ending_of-ending.ensures
     in
     parts_are_made (solve_settings_value_of c.args.settings.now) c.args.text.now _ c.in_ok-fault.fault pushed.0 _ _ _ _ _
-    c.parts_make_the_spelling.ensures c.in_ok-fault.ensures pushed.1 header pushed.2 ending sections end
+    c.parts_make_the_spelling.ensures c.in_ok-fault.ensures pushed.1 c.ending_is_good.ensures header pushed.2 ending sections end

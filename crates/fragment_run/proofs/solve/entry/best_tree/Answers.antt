@@ -1,5 +1,6 @@
-use Rattle.std.proofs.Common.{◌≡◌, ◌≤ℤ◌, ◌∙◌, ℤ, List, ℕ, ap, refl, rules, w64}
+use Rattle.std.proofs.Common.{◌≡◌, ◌≤ℤ◌, ◌∙◌, ◌≤◌, ℤ, List, ℕ, length, slice_index, ap, refl, sym, subst, arith, rules, w64}
 use Rattle.std.proofs.lemmas.Int.{ints, to_z-of_z}
+use Rattle.std.proofs.lemmas.List.{length-map}
 use Rattle.certificate_checker.specs.EntryIsRight.{EntryIsRight}
 use Rattle.certificate_checker.specs.Rows.{AreRows, edges_of}
 use Rattle.colour_graph.specs.Bounded.{IsBest, IsBounded}
@@ -13,6 +14,7 @@ use Rattle.tree_certificate.specs.TableHolds.{TableHolds}
 use Rattle.tree_certificate.specs.Value.{a_table}
 use Rattle.tree_certificate.specs.declared.entry.Mark.TheVariants.{Optimal}
 use Rattle.tree_certificate.specs.declared.entry.TreeRow.{TreeRow}
+use Rattle.fragment_run.proofs.GoodTrees.{IsSmall, tree_is_good}
 use Rattle.fragment_run.proofs.solve.entry.best_tree.Goals as goal
 
 -- the edges of a best tree, and a table that holds for their score
@@ -32,6 +34,7 @@ right_entry built graph edges rows table score same right are solved total = rec
   score = rw (← same, are) total;
   capped = rw (← same, total) solved.capped;
   mark = refl;
+  gap = tt;
   cert = rw (← same, total) solved.holds;
 }
 
@@ -59,3 +62,20 @@ returns-clause-bounded c =
     let total : c.tree_score-score.result ≡ score_of graph edges = c.tree_score-score.ensures ∙ ap (score_of graph) c.deref.ensures.value in
     bounded_by graph c.args.built.now edges _ (ap (λ built. built.graph) c.built.view_is) c.in_ok-edges.ensures.best
     (to_z-of_z w64 c.tree_score-score.result (search (rules, ints)) ∙ total)
+
+pub returns-clause-good : goal.returns-clause-good
+returns-clause-good c =
+    let built = c.args.built.now in
+    let is_small : IsSmall built = subst IsSmall c.built.view_is (record {
+      graph = c.edge_count-count.ensures.is_graph;
+      parts = c.built.invariant;
+      vertices = subst (λ (built : LossGraphValue). length built.graph.colours ≤ 512) (sym c.built.view_is) c.requires.vertices;
+      peaks = subst (λ (built : LossGraphValue). (colour : ℕ) → slice_index built.peaks colour ≤ 512) (sym c.built.view_is) c.requires.peaks;
+      formulas = c.items-formulas.ensures.formulas;
+      losses = c.a_whole_is_its_part_and_its_loss.ensures.formula;
+    }) in
+    let edges_are = c.in_ok-rows.ensures.edges ∙ c.deref-2.ensures.value in
+    let rows : length c.of.result ≤ 512 =
+    omega (arith, ap length c.of.ensures, ap length edges_are, length-map c.in_ok-rows.rows.items (λ (row : TreeRow). row.edge), c.in_ok-edges.ensures.few) in
+    tree_is_good built _ _ is_small (returns-clause-entry c) rows refl refl
+    (rw (← c.built.view_is) c.in_ok-edges.ensures.holds.fits) c.rows-numbers.ensures.numbers

@@ -14,6 +14,7 @@ use Rattle.tree_certificate.specs.Value.{TreeValue}
 use Rattle.fragment_run.specs.Candidates.{graph_of, ion_of}
 use Rattle.fragment_run.specs.SolveSettings.{SolveSettingsValue}
 use Rattle.fragment_run.specs.inside.SettingsOf.{solve_settings_value_of}
+use Rattle.fragment_run.proofs.GoodEntries.{peaks-few}
 use Rattle.fragment_run.proofs.solve.entry.outcome_of.Goals as goal
 
 -- each colour has a list of a peak
@@ -41,13 +42,18 @@ right_tree settings lists candidate built tree is entry bounded = (
   subst (λ graph. IsBounded graph.graph (all_edges graph.graph) tree.upper) is bounded,
 )
 
+pub best_tree-requires-clause-peaks : goal.best_tree-requires-clause-peaks
+best_tree-requires-clause-peaks g c =
+    peaks-few (ion_of (solve_settings_value_of c.args.settings.now) c.args.candidate.now) c.args.lists.now c.in-Ok.built.peaks
+    (ap (λ built. built.peaks) c.in-Ok.ensures.exactly) (omega (arith, c.requires.few))
+
 pub best_tree-requires-clause-colours : goal.best_tree-requires-clause-colours
 best_tree-requires-clause-colours g c =
     few_colours (ion_of (solve_settings_value_of c.args.settings.now) c.args.candidate.now) c.args.lists.now c.in-Ok.built
     (ap (λ built. built.peaks) c.in-Ok.ensures.exactly) c.in-Ok.ensures.parts c.requires.few
 
-pub returns-in_ok-best_tree-in-Ok : goal.returns-in_ok-best_tree-in-Ok
-returns-in_ok-best_tree-in-Ok g c = (
+pub returns-in_ok-best_tree-in-Ok-clause-right : goal.returns-in_ok-best_tree-in-Ok-clause-right
+returns-in_ok-best_tree-in-Ok-clause-right g c = (
   c.in-Ok.ensures.small,
   right_tree (solve_settings_value_of c.args.settings.now) c.args.lists.now c.args.candidate.now c.in-Ok.built _
       c.in-Ok.ensures.exactly c.in_ok-best_tree-in-Ok.ensures.entry c.in_ok-best_tree-in-Ok.ensures.bounded,

@@ -2,6 +2,7 @@ use Rattle.std.proofs.Common.{List, ℕ, arith, sym, subst}
 use Rattle.std.proofs.lemmas.Grind.{common_steps}
 use Rattle.std.proofs.lemmas.List.Elements.{All-push, All-same}
 use Rattle.loss_graph.specs.Lists.{AreLists}
+use Rattle.tree_certificate.specs.Document.{AreGoodLines, entry_lines}
 use Rattle.fragment_run.specs.Candidates.{ion_of}
 use Rattle.fragment_run.specs.RightSection.{IsRightEntry}
 use Rattle.fragment_run.specs.inside.SettingsOf.{solve_settings_value_of}
@@ -18,5 +19,7 @@ loop-candidate-preserved g c = record {
   right = All-same (IsRightEntry (solve_settings_value_of c.args.settings.now) c.args.lists.now) _ _ c.in_ok-push.ensures.items
       (All-push (IsRightEntry (solve_settings_value_of c.args.settings.now) c.args.lists.now) _ _
       c.loop-candidate.invariant.right c.in_ok-entry.ensures.entry);
+  good = All-same (λ entry. AreGoodLines (entry_lines entry)) _ _ c.in_ok-push.ensures.items
+      (All-push (λ entry. AreGoodLines (entry_lines entry)) _ _ c.loop-candidate.invariant.good c.in_ok-entry.ensures.good);
   candidates = grind (arith, common_steps);
 }

@@ -1,5 +1,6 @@
 use Rattle.std.proofs.Common.{◌≡◌, map, take}
 use Rattle.std.specs.List.{All}
+use Rattle.tree_certificate.specs.Document.{AreGoodLines, entry_lines}
 use Rattle.fragment_run.specs.RightSection.{IsRightEntry}
 use Rattle.fragment_run.specs.inside.SettingsOf.{solve_settings_value_of}
 use Rattle.fragment_run.proofs.solve.section.entries_of.Given as goal
@@ -7,5 +8,6 @@ use Rattle.fragment_run.proofs.solve.section.entries_of.Given as goal
 abbrev pub invariant-loop-candidate : goal.invariant-loop-candidate
 invariant-loop-candidate g l = record {
   right : All (IsRightEntry (solve_settings_value_of l.settings) l.lists) l.entries.items;
+  good : All (λ entry. AreGoodLines (entry_lines entry)) l.entries.items;
   candidates : map (λ entry. entry.candidate) l.entries.items ≡ take l.candidate-index l.candidates;
 }

@@ -1,4 +1,4 @@
-use Rattle.std.proofs.Common.{◌≡◌, ◌∙◌, sym, refl, ap}
+use Rattle.std.proofs.Common.{◌∙◌, sym, refl, ap}
 use Rattle.std.proofs.lemmas.Bool.{false≢true}
 use Rattle.tree_certificate.specs.Number.{greatest_number, is_near}
 use Rattle.std.specs.List.{list_all}

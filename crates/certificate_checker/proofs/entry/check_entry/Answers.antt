@@ -1,0 +1,21 @@
+use Rattle.std.proofs.Common.{◌∙◌, ap}
+use Rattle.certificate_checker.specs.Rows.{AreRows}
+use Rattle.certificate_checker.specs.declared.entry_place.EntryVerdict.TheVariants.{Wrong}
+use Rattle.certificate_checker.proofs.IsEntryVerdict.{exactly_entry, exactly_entry_from}
+use Rattle.certificate_checker.proofs.entry.check_entry.Goals as goal
+
+pub wrong_edges-requires-clause-rows : goal.wrong_edges-requires-clause-rows
+wrong_edges-requires-clause-rows c =
+    let right : AreRows c.args.built.now c.items.result.now = c.in_default.ensures in
+    rw (c.items.ensures ∙ ap (λ tree. tree.rows) c.tree.view_is) at right
+
+pub returns-in-Some-wrong_edges-clause-exactly : goal.returns-in-Some-wrong_edges-clause-exactly
+returns-in-Some-wrong_edges-clause-exactly c = exactly_entry c.args.built.now c.args.tree.now (Wrong c.in-Some-wrong_edges.place)
+    c.in-Some-wrong_edges.ensures
+
+pub returns-in-Some-wrong_number-clause-exactly : goal.returns-in-Some-wrong_number-clause-exactly
+returns-in-Some-wrong_number-clause-exactly c = exactly_entry c.args.built.now c.args.tree.now (Wrong c.in-Some-wrong_number.place)
+    c.in-Some-wrong_number.ensures
+
+pub returns-clause-exactly : goal.returns-clause-exactly
+returns-clause-exactly c = exactly_entry_from c.args.built.now c.args.tree.now c.check_bound.result c.check_bound.ensures

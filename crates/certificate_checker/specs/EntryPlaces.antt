@@ -1,0 +1,90 @@
+-- Why the tree of a candidate is not right: the first place, in the order of looking, where a condition fails.
+use Rattle.std.specs.Prelude.{◌≡◌, ◌≢◌, ◌≤◌, ◌<◌, ◌+◌, ℕ, pos, ◌<ℤ◌, ◌≤ℤ◌, List, length}
+use Rattle.std.specs.List.{All}
+use Rattle.colour_graph.specs.Cap.{cap_of}
+use Rattle.colour_graph.specs.Colourful.{IsColourful, IsReached, score_of}
+use Rattle.colour_graph.specs.EdgeSet.{all_edges}
+use Rattle.colour_graph.specs.Graph.{Graph, colour_count, edge_at, head_colour}
+use Rattle.colour_graph.specs.Maximal.{IsMaximal}
+use Rattle.loss_graph.specs.LossGraph.{LossGraphValue}
+use Rattle.tree_certificate.specs.CertHolds.{CertHolds}
+use Rattle.tree_certificate.specs.TableHolds.{greatest_colours}
+use Rattle.tree_certificate.specs.Value.{TreeValue}
+use Rattle.tree_certificate.specs.declared.entry.TreeRow.{TreeRow}
+use Rattle.tree_certificate.specs.declared.entry.Mark.TheVariants.{Gap}
+use Rattle.certificate_checker.specs.EntryIsRight.{EntryIsRight, MarkFits}
+use Rattle.certificate_checker.specs.Places.{IsPlace}
+use Rattle.certificate_checker.specs.Rows.{AreRows, IsRow, edges_of}
+use Rattle.certificate_checker.specs.declared.entry_place.EntryPlace.{EntryPlace}
+use Rattle.certificate_checker.specs.declared.entry_place.EntryPlace.TheVariants.{Rows, NotColourful, NotMaximal, Score}
+use Rattle.certificate_checker.specs.declared.entry_place.EntryPlace.TheVariants.{Upper, Mark, Cert, FewColours}
+use Rattle.certificate_checker.specs.declared.entry_place.EntryVerdict.{EntryVerdict}
+use Rattle.certificate_checker.specs.declared.entry_place.EntryVerdict.TheVariants.{Right, Wrong}
+
+-- the number, from 1, of the first row that is not the graph's
+pub record IsRowsPlace (built : LossGraphValue) (rows : List TreeRow) (number : ℕ) : Type 0 where
+  pub place : ℕ
+  pub numbered : number ≡ place + 1
+  pub in_rows : place < length rows
+  pub before : (earlier : ℕ) → earlier < place → IsRow built rows earlier
+  pub wrong : ¬ (IsRow built rows place)
+
+-- an edge from the root or a head to a colour without a head, of positive weight
+pub record CanBeAdded (graph : Graph) (edges : List ℕ) (edge : ℕ) : Type 0 where
+  pub in_graph : edge < length graph.edges
+  pub reached : IsReached graph edges (edge_at graph edge).tail
+  pub free : All (λ taken. head_colour graph taken ≢ head_colour graph edge) edges
+  pub gain : pos 0 <ℤ (edge_at graph edge).weight
+
+-- the least edge that can be added
+pub record IsAddedPlace (graph : Graph) (edges : List ℕ) (edge : ℕ) : Type 0 where
+  pub can : CanBeAdded graph edges edge
+  pub before : (earlier : ℕ) → earlier < edge → ¬ (CanBeAdded graph edges earlier)
+
+-- What is looked at in turn, each with all before it: the rows and their edges, whether an edge can be added, the
+-- score, the upper bound, the mark, and the certificate.
+pub record EdgesAreRight (built : LossGraphValue) (tree : TreeValue) : Type 0 where
+  pub rows : AreRows built tree.rows
+  pub colourful : IsColourful built.graph (edges_of tree.rows)
+
+pub record NoneIsAdded (built : LossGraphValue) (tree : TreeValue) : Type 0 where
+  pub before : EdgesAreRight built tree
+  pub maximal : IsMaximal built.graph (edges_of tree.rows)
+
+pub record ScoreIsRight (built : LossGraphValue) (tree : TreeValue) : Type 0 where
+  pub before : NoneIsAdded built tree
+  pub score : tree.score ≡ score_of built.graph (edges_of tree.rows)
+
+pub record UpperIsCapped (built : LossGraphValue) (tree : TreeValue) : Type 0 where
+  pub before : ScoreIsRight built tree
+  pub capped : tree.upper ≤ℤ cap_of built.graph (all_edges built.graph)
+
+pub record MarkIsFitting (built : LossGraphValue) (tree : TreeValue) : Type 0 where
+  pub before : UpperIsCapped built tree
+  pub mark : MarkFits tree.mark tree.score tree.upper
+
+pub record CertIsRight (built : LossGraphValue) (tree : TreeValue) : Type 0 where
+  pub before : MarkIsFitting built tree
+  pub cert : CertHolds built.graph tree.cert tree.upper
+
+-- the first place where a tree is wrong, with the number that it keeps, in the order in which places are named
+abbrev pub IsEntryPlace : LossGraphValue → TreeValue → EntryPlace → Type 0
+IsEntryPlace built tree (Rows number) = IsRowsPlace built tree.rows number
+IsEntryPlace built tree NotColourful =
+    AreRows built tree.rows × ¬ (IsColourful built.graph (edges_of tree.rows))
+IsEntryPlace built tree (NotMaximal edge) =
+    EdgesAreRight built tree × IsAddedPlace built.graph (edges_of tree.rows) edge
+IsEntryPlace built tree (Score score) =
+    NoneIsAdded built tree × (score ≡ score_of built.graph (edges_of tree.rows)) × (tree.score ≢ score)
+IsEntryPlace built tree (Upper cap) =
+    ScoreIsRight built tree × (cap ≡ cap_of built.graph (all_edges built.graph)) × (cap <ℤ tree.upper)
+IsEntryPlace built tree Mark = UpperIsCapped built tree × ¬ (MarkFits tree.mark tree.score tree.upper)
+IsEntryPlace built tree (Cert place) =
+    MarkIsFitting built tree × IsPlace built.graph tree.cert tree.upper place
+IsEntryPlace built tree (FewColours colours) = CertIsRight built tree × (tree.mark ≡ Gap)
+    × (colours ≡ colour_count built.graph) × (colours ≤ greatest_colours)
+
+-- what is said of a tree: that it is right, or the first place where it is wrong
+abbrev pub IsEntryVerdict : LossGraphValue → TreeValue → EntryVerdict → Type 0
+IsEntryVerdict built tree Right = EntryIsRight built tree
+IsEntryVerdict built tree (Wrong place) = IsEntryPlace built tree place

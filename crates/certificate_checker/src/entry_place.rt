@@ -1,0 +1,33 @@
+//! Where the tree of a candidate is wrong.
+
+use crate::place::Place;
+
+/// The first place where a tree is not right for the graph of its candidate, in the order of looking.
+#[derive(Clone, Copy, Debug, PartialEq, Eq)]
+pub enum EntryPlace {
+    /// The row of this number, from 1, is not the graph's.
+    Rows(u32),
+    /// The edges of the rows are not colourful.
+    NotColourful,
+    /// This edge could be added with gain, and no smaller one could.
+    NotMaximal(u32),
+    /// The score is not this one, which is right.
+    Score(i64),
+    /// The upper bound is above the cap of all edges, which is this.
+    Upper(i64),
+    /// The tree is marked optimal and its score is not its upper bound, or it is marked as a gap and it is.
+    Mark,
+    /// The certificate fails, here first.
+    Cert(Place),
+    /// There is a gap, though the graph has only so many colours, at most 12.
+    FewColours(u32),
+}
+
+/// What is said of the tree of a candidate.
+#[derive(Clone, Copy, Debug, PartialEq, Eq)]
+pub enum EntryVerdict {
+    /// It is right.
+    Right,
+    /// It is wrong, here first.
+    Wrong(EntryPlace),
+}

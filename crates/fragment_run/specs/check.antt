@@ -1,0 +1,2 @@
+pub mod CheckPlaces
+pub mod CheckPromise

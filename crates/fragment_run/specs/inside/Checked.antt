@@ -1,0 +1,34 @@
+-- What a check that was made stands for.
+use Rattle.std.specs.Prelude.{◌≡◌, ℕ, List, Option, length}
+use Rattle.mgf_reader.specs.Grammar.{Reads}
+use Rattle.mgf_reader.specs.Spectrum.{SpectrumValue}
+use Rattle.mgf_reader.specs.declared.fault.MgfFault.{MgfFault}
+use Rattle.tree_certificate.specs.declared.document.Document.{Document}
+use Rattle.tree_certificate.specs.declared.fault.CertFault.TheVariants.{OutOfMemory}
+use Rattle.fragment_run.specs.RightDocument.{DocumentIsRight}
+use Rattle.fragment_run.specs.SolveSettings.{SolveSettingsValue}
+use Rattle.fragment_run.specs.check.CheckPlaces.{IsDocumentPlace}
+use Rattle.fragment_run.specs.check.CheckPromise.{CheckOutcome, accepted, refused, rejected}
+use Rattle.fragment_run.specs.declared.status.Status.{Status}
+use Rattle.fragment_run.specs.declared.status.Status.TheVariants.{DocumentRefused}
+use Rattle.fragment_run.specs.declared.check.document.Checked.{Checked}
+use Rattle.fragment_run.specs.declared.check.document.Checked.TheVariants.{Refused, Rejected, Accepted}
+
+abbrev pub outcome_of : Checked → CheckOutcome
+outcome_of (Refused fault) = refused fault
+outcome_of (Rejected place) = rejected place
+outcome_of (Accepted count fault) = accepted count fault
+
+-- what is answered of a document that was read
+abbrev pub IsComparison : SolveSettingsValue → List ℕ → Document → Checked → Type 0
+IsComparison settings text document (Refused fault) = ⊥
+IsComparison settings text document (Rejected place) =
+    (spectra : List SpectrumValue) × (fault : Option MgfFault) × Reads text spectra fault
+    × IsDocumentPlace settings spectra fault document place.section place.part
+IsComparison settings text document (Accepted count fault) =
+    DocumentIsRight settings text fault document × (count ≡ length document.sections)
+
+-- a document is told as refused for want of memory, which no run does
+abbrev pub IsNoMemory : Status → Type 0
+IsNoMemory (DocumentRefused fault) = fault ≡ OutOfMemory
+IsNoMemory status = ⊥

@@ -1,0 +1,108 @@
+//! Whether the bytes of a document spell one that is right for a text, and where not.
+ghost use Rattle.std.specs.Prelude.{◌≡◌, ◌≤◌, IfOk, length};
+ghost use Rattle.frag_io.specs.declared.desk.Slot.TheVariants.{CertIn, Spectra};
+ghost use Rattle.fragment_run.specs.Limits.{greatest_text_of};
+ghost use Rattle.fragment_run.specs.check.CheckPromise.{IsOutcome};
+ghost use Rattle.fragment_run.specs.inside.CheckAnswers.{AreSectionsAnswer};
+ghost use Rattle.fragment_run.specs.inside.Checked.{IsComparison, outcome_of};
+ghost use Rattle.fragment_run.specs.inside.SettingsOf.{solve_settings_value_of};
+
+use crate::check::section::section_place;
+use crate::ending::ending_of;
+use crate::reading::read_all;
+use crate::reject::{RejectPart, RejectPlace};
+use crate::settings::SolveSettings;
+use mgf_reader::{MgfFault, Reader};
+use std::alloc::{AllocError, Global};
+use tree_certificate::{CertFault, Document, Section, read_document};
+
+/// What a check finds of the bytes of a document: that they are refused, or where the document differs first from the
+/// right ones of the text, or that it is right, how many sections it has, and the line that refused the text, where there
+/// is one.
+#[derive(Drop)]
+pub enum Checked {
+    Refused(CertFault),
+    Rejected(RejectPlace),
+    Accepted(usize, Option<MgfFault>),
+}
+
+/// What a check finds of the bytes of a document for a text.
+pub fn check_text(
+    alloc: Global,
+    text: &[u8],
+    bytes: &[u8],
+    settings: &SolveSettings,
+) -> Result<Checked, AllocError>
+    requires short { length text.now ≤ greatest_text_of Spectra }
+    requires document { length bytes.now ≤ greatest_text_of CertIn }
+    requires peaks { settings.now.listing.choice.peaks ≤ 40 }
+    ensures { IfOk result (λ checked.
+        IsOutcome (solve_settings_value_of settings.now) text.now bytes.now (outcome_of checked)) }
+{
+    match read_document(alloc, bytes) {
+        Ok(document) => compare(alloc, text, &document, settings),
+        Err(CertFault::OutOfMemory) => Err(AllocError),
+        Err(fault) => Ok(Checked::Refused(fault)),
+    }
+}
+
+/// Compares a document with the right ones of a text.
+fn compare(
+    alloc: Global,
+    text: &[u8],
+    document: &Document,
+    settings: &SolveSettings,
+) -> Result<Checked, AllocError>
+    requires short { length text.now ≤ greatest_text_of Spectra }
+    requires few { length document.now.sections ≤ greatest_text_of CertIn }
+    requires peaks { settings.now.listing.choice.peaks ≤ 40 }
+    ensures { IfOk result (IsComparison (solve_settings_value_of settings.now) text.now document.now) }
+{
+    let mut reader = Reader::new(alloc)?;
+    let fault = read_all(&mut reader, text)?;
+    let sections = document.sections.items();
+    if let Some(place) = first_wrong_section(alloc, &mut reader, sections, settings)? {
+        return Ok(Checked::Rejected(place));
+    }
+    if document.ending != ending_of(fault) {
+        return Ok(Checked::Rejected(RejectPlace {
+            section: sections.len() as u32 + 1,
+            part: RejectPart::Ending,
+        }));
+    }
+    Ok(Checked::Accepted(sections.len(), fault))
+}
+
+/// The first section that is not right for the spectra that wait, or that one side alone has.
+fn first_wrong_section(
+    alloc: Global,
+    reader: &mut Reader,
+    sections: &[Section],
+    settings: &SolveSettings,
+) -> Result<Option<RejectPlace>, AllocError>
+    requires few { length sections.now ≤ greatest_text_of CertIn }
+    requires peaks { settings.now.listing.choice.peaks ≤ 40 }
+    ensures { IfOk result (AreSectionsAnswer (solve_settings_value_of settings.now) reader.old.waiting sections.now) }
+{
+    let mut number = 0;
+    while let Some(spectrum) = reader.next() {
+        let part = match sections.get(number) {
+            Some(section) => section_place(alloc, &spectrum, section, settings)?,
+            None => Some(RejectPart::Missing),
+        };
+        number += 1;
+        if let Some(part) = part {
+            return Ok(Some(RejectPlace {
+                section: number as u32,
+                part,
+            }));
+        }
+    }
+    if number < sections.len() {
+        return Ok(Some(RejectPlace {
+            section: number as u32 + 1,
+            part: RejectPart::Extra,
+        }));
+    }
+    Ok(None)
+}
