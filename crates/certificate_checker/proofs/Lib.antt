@@ -1,11 +1,21 @@
 mod PartWalk
+mod MarkedColours
+mod UsefulColours
+mod IdleColours
 mod Raising
 mod TableNumbers
 mod EnoughIsHigh
 mod LowPlaces
+mod BoundVerdicts
 mod Verdicts
 mod CapOf
+mod Gaining
+mod SplitSides
 mod AreMarks
 mod AreFirsts
 mod IsColourful
+mod Gathering
+mod Totals
+mod GapPlaces
+mod Looking
 pub mod IsEntryVerdict

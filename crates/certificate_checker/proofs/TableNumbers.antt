@@ -1,4 +1,4 @@
--- The numbers of a table, and its rows.
+-- The numbers of a certificate, and the rows of a table.
 use Rattle.std.proofs.Common.{◌≡◌, ◌+◌, ◌-◌, ◌*◌, ◌^◌, ◌<◌, ◌≤◌, ℕ, zero, suc, ℤ, pos, negsuc, true, List, [], length, replicate, ap, refl, ◌∙◌, arith, pow-suc, pow_pos}
 use Rattle.std.proofs.Math.Nat.{pow-le-pow_right}
 use Rattle.std.proofs.lemmas.Bool.{leb-true}
@@ -8,7 +8,7 @@ use Rattle.std.proofs.lemmas.List.Sums.{AllPass-from_list_all}
 use Rattle.std.specs.List.{list_all}
 use Rattle.colour_graph.specs.Graph.{Graph, colour_count, colour_of}
 use Rattle.tree_certificate.specs.ColourSet.{place_of}
-use Rattle.tree_certificate.specs.Number.{AreNumbers, greatest_number, is_near}
+use Rattle.tree_certificate.specs.Number.{AreNear, AreNumbers, greatest_number, is_near}
 use Rattle.tree_certificate.specs.TableHolds.{FitsGraph, place_in, row_at, row_length}
 use Rattle.certificate_checker.specs.inside.Enough.{AreNumbersBelow, IsNumber, number_in}
 
@@ -19,6 +19,9 @@ near-number (pos n) is =
 near-number (negsuc n) is =
     let few : suc n ≤ 1000000000000000 = leb-true (suc n) 1000000000000000 is in
     record { not_below = omega (arith, ints); not_above = omega (arith, ints) }
+
+pub near-below : (numbers : List ℤ) → AreNear numbers → AreNumbersBelow numbers (length numbers)
+near-below numbers near place within = near-number (number_in numbers place) (AllPass-from_list_all (is_near greatest_number) numbers near place (pos 0) within)
 
 pub numbers-row : (rows : List (List ℤ)) (vertex : ℕ) → AreNumbers rows → vertex < length rows → AreNumbersBelow (row_at rows vertex) (length (row_at rows vertex))
 numbers-row rows vertex near within place in_row =

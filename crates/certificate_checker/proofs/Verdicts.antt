@@ -3,16 +3,18 @@ use Rattle.std.proofs.Common.{◌≡◌, ◌⊎◌, inl, inr, ◌+◌, ◌-◌, 
 use Rattle.std.proofs.lemmas.Bool.{cases_eq}
 use Rattle.std.proofs.lemmas.Int.{ints}
 use Rattle.std.proofs.lemmas.Result.{IfOk-weaker}
+use Rattle.colour_graph.specs.EdgeSet.{all_edges}
 use Rattle.colour_graph.specs.Graph.{Graph, colour_count, colour_of}
 use Rattle.tree_certificate.specs.CertHolds.{CertHolds}
 use Rattle.tree_certificate.specs.ColourSet.{place_of}
 use Rattle.tree_certificate.specs.TableHolds.{HasRow, IsHighAt, TableHolds, number_at, place_in, row_length, table_total}
-use Rattle.tree_certificate.specs.Value.{CertValue, a_table}
+use Rattle.tree_certificate.specs.Value.{CertValue, a_bound, a_table}
 use Rattle.certificate_checker.specs.declared.place.Place.{Place}
 use Rattle.certificate_checker.specs.declared.place.Place.TheVariants.{TableColours, TableShape, TableRow, TableTotal}
 use Rattle.certificate_checker.specs.declared.place.Verdict.{Verdict}
 use Rattle.certificate_checker.specs.declared.place.Verdict.TheVariants.{Holds, Fails}
 use Rattle.certificate_checker.specs.Places.{IsNeeded, IsTablePlace, IsVerdict}
+use Rattle.certificate_checker.proofs.BoundVerdicts.{no_bound_place}
 use Rattle.certificate_checker.proofs.LowPlaces.{SetAt, double, half, set_at}
 
 -- a set whose colours stand, behind one smaller colour, at a place among so many colours
@@ -129,9 +131,15 @@ no_place graph rows upper (TableTotal total) is holds = not_below upper total is
   where
     at_most : (t : ℤ) → t ≡ table_total graph rows → table_total graph rows ≤ℤ upper → t ≤ℤ upper
     at_most t same few = rw same few
+no_place graph rows upper place is holds = absurd is
 
 exactly_at : (graph : Graph) (cert : CertValue) (upper : ℤ) (verdict : Verdict) → IsVerdict graph cert upper verdict → (verdict ≡ Holds) ↔ CertHolds graph cert upper
 exactly_at graph cert upper Holds is = (λ same. is, λ holds. refl)
+exactly_at graph (a_bound bound) upper (Fails place) is =
+    (λ same. absurd (differ same), λ holds. absurd (no_bound_place graph (all_edges graph) bound upper 0 place is holds))
+  where
+    differ : Fails place ≡ Holds → ⊥
+    differ same = cc
 exactly_at graph (a_table rows) upper (Fails place) is = (λ same. absurd (differ same), λ holds. absurd (no_place graph rows upper place is holds))
   where
     differ : Fails place ≡ Holds → ⊥

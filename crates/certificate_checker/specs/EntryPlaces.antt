@@ -9,10 +9,11 @@ use Rattle.colour_graph.specs.Maximal.{IsMaximal}
 use Rattle.loss_graph.specs.LossGraph.{LossGraphValue}
 use Rattle.tree_certificate.specs.CertHolds.{CertHolds}
 use Rattle.tree_certificate.specs.TableHolds.{greatest_colours}
-use Rattle.tree_certificate.specs.Value.{TreeValue}
+use Rattle.tree_certificate.specs.Value.{CertValue, TreeValue, a_bound, a_table}
 use Rattle.tree_certificate.specs.declared.entry.TreeRow.{TreeRow}
 use Rattle.tree_certificate.specs.declared.entry.Mark.TheVariants.{Gap}
 use Rattle.certificate_checker.specs.EntryIsRight.{EntryIsRight, MarkFits}
+use Rattle.certificate_checker.specs.GapPlaces.{IsGapPlace}
 use Rattle.certificate_checker.specs.Places.{IsPlace}
 use Rattle.certificate_checker.specs.Rows.{AreRows, IsRow, edges_of}
 use Rattle.certificate_checker.specs.declared.entry_place.EntryPlace.{EntryPlace}
@@ -67,24 +68,31 @@ pub record CertIsRight (built : LossGraphValue) (tree : TreeValue) : Type 0 wher
   pub before : MarkIsFitting built tree
   pub cert : CertHolds built.graph tree.cert tree.upper
 
+-- where a gap is wrong first: a table that holds is of a graph of few colours
+abbrev pub IsLatePlace : Graph → TreeValue → ℕ → CertValue → EntryPlace → Type 0
+IsLatePlace graph tree budget (a_table rows) place = ⊥
+IsLatePlace graph tree budget (a_bound bound) place = IsGapPlace graph bound tree.score tree.upper budget place
+
 -- the first place where a tree is wrong, with the number that it keeps, in the order in which places are named
-abbrev pub IsEntryPlace : LossGraphValue → TreeValue → EntryPlace → Type 0
-IsEntryPlace built tree (Rows number) = IsRowsPlace built tree.rows number
-IsEntryPlace built tree NotColourful =
+abbrev pub IsEntryPlace : LossGraphValue → TreeValue → ℕ → EntryPlace → Type 0
+IsEntryPlace built tree budget (Rows number) = IsRowsPlace built tree.rows number
+IsEntryPlace built tree budget NotColourful =
     AreRows built tree.rows × ¬ (IsColourful built.graph (edges_of tree.rows))
-IsEntryPlace built tree (NotMaximal edge) =
+IsEntryPlace built tree budget (NotMaximal edge) =
     EdgesAreRight built tree × IsAddedPlace built.graph (edges_of tree.rows) edge
-IsEntryPlace built tree (Score score) =
+IsEntryPlace built tree budget (Score score) =
     NoneIsAdded built tree × (score ≡ score_of built.graph (edges_of tree.rows)) × (tree.score ≢ score)
-IsEntryPlace built tree (Upper cap) =
+IsEntryPlace built tree budget (Upper cap) =
     ScoreIsRight built tree × (cap ≡ cap_of built.graph (all_edges built.graph)) × (cap <ℤ tree.upper)
-IsEntryPlace built tree Mark = UpperIsCapped built tree × ¬ (MarkFits tree.mark tree.score tree.upper)
-IsEntryPlace built tree (Cert place) =
+IsEntryPlace built tree budget Mark = UpperIsCapped built tree × ¬ (MarkFits tree.mark tree.score tree.upper)
+IsEntryPlace built tree budget (Cert place) =
     MarkIsFitting built tree × IsPlace built.graph tree.cert tree.upper place
-IsEntryPlace built tree (FewColours colours) = CertIsRight built tree × (tree.mark ≡ Gap)
+IsEntryPlace built tree budget (FewColours colours) = CertIsRight built tree × (tree.mark ≡ Gap)
     × (colours ≡ colour_count built.graph) × (colours ≤ greatest_colours)
+IsEntryPlace built tree budget place = CertIsRight built tree × (tree.mark ≡ Gap)
+    × (greatest_colours < colour_count built.graph) × IsLatePlace built.graph tree budget tree.cert place
 
 -- what is said of a tree: that it is right, or the first place where it is wrong
-abbrev pub IsEntryVerdict : LossGraphValue → TreeValue → EntryVerdict → Type 0
-IsEntryVerdict built tree Right = EntryIsRight built tree
-IsEntryVerdict built tree (Wrong place) = IsEntryPlace built tree place
+abbrev pub IsEntryVerdict : LossGraphValue → TreeValue → ℕ → EntryVerdict → Type 0
+IsEntryVerdict built tree budget Right = EntryIsRight built tree budget
+IsEntryVerdict built tree budget (Wrong place) = IsEntryPlace built tree budget place

@@ -1,9 +1,11 @@
 -- Why a certificate does not hold: the first place, in the order of looking, where a condition fails.
 use Rattle.std.specs.Prelude.{◌≡◌, ◌<◌, ◌≤◌, ◌+◌, ◌⊎◌, ◌↔◌, ℕ, ℤ, pos, ◌<ℤ◌, ◌≤ℤ◌, Bool, true, List, ◌∷◌, length}
+use Rattle.colour_graph.specs.EdgeSet.{all_edges}
 use Rattle.colour_graph.specs.Graph.{Graph, colour_count, colour_of}
 use Rattle.tree_certificate.specs.CertHolds.{CertHolds}
 use Rattle.tree_certificate.specs.TableHolds.{FitsGraph, HasRow, IsHighAt, IsHighEnough, greatest_colours, number_at, place_in, row_length, table_total}
-use Rattle.tree_certificate.specs.Value.{CertValue, a_table}
+use Rattle.tree_certificate.specs.Value.{CertValue, a_bound, a_table}
+use Rattle.certificate_checker.specs.BoundPlaces.{IsBoundPlace}
 use Rattle.certificate_checker.specs.declared.place.Place.{Place}
 use Rattle.certificate_checker.specs.declared.place.Place.TheVariants.{TableColours, TableShape, TableRow, TableTotal}
 use Rattle.certificate_checker.specs.declared.place.Verdict.{Verdict}
@@ -56,9 +58,11 @@ IsTablePlace graph rows upper (TableColours colours) =
 IsTablePlace graph rows upper (TableShape vertex) = IsShapePlace graph rows vertex
 IsTablePlace graph rows upper (TableRow vertex place held needed) = IsRowPlace graph rows vertex place held needed
 IsTablePlace graph rows upper (TableTotal total) = IsTotalPlace graph rows upper total
+IsTablePlace graph rows upper place = ⊥
 
 abbrev pub IsPlace : Graph → CertValue → ℤ → Place → Type 0
 IsPlace graph (a_table rows) upper place = IsTablePlace graph rows upper place
+IsPlace graph (a_bound bound) upper place = IsBoundPlace graph (all_edges graph) bound upper 0 place
 
 -- what is said of a certificate: that it holds, or the first place where it fails
 abbrev pub IsVerdict : Graph → CertValue → ℤ → Verdict → Type 0

@@ -1,12 +1,13 @@
 //! Whether a certificate holds.
-ghost use Rattle.std.specs.Prelude.{◌≡◌, ◌≤◌, ◌↔◌, IfOk, Ok, length};
+ghost use Rattle.std.specs.Prelude.{◌≡◌, ◌≤◌, ◌<◌, ◌^◌, ◌↔◌, IfOk, Ok, length};
 ghost use Rattle.colour_graph.specs.Bounded.{IsBounded};
 ghost use Rattle.colour_graph.specs.EdgeSet.{all_edges};
-ghost use Rattle.tree_certificate.specs.CertHolds.{CertHolds};
+ghost use Rattle.tree_certificate.specs.CertHolds.{CertHolds, cert_depth, cert_splits};
 ghost use Rattle.tree_certificate.specs.Value.{cert_of};
 ghost use Rattle.certificate_checker.specs.Places.{IsVerdict};
 ghost use Rattle.certificate_checker.specs.declared.place.Verdict.TheVariants.{Holds};
 
+use crate::bound::check_bound;
 use crate::place::Verdict;
 use crate::table::check_table;
 use colour_graph::ColourGraph;
@@ -22,6 +23,8 @@ pub fn check_cert(
     upper: i64,
 ) -> Result<Verdict, AllocError>
     requires vertices { length graph.now.colours ≤ 512 }
+    requires depth { cert_depth (cert_of cert.now) ≤ 1024 }
+    requires few { cert_splits (cert_of cert.now) < 2 ^ 31 }
     ensures verdict { IfOk result (λ verdict. IsVerdict graph.now (cert_of cert.now) upper verdict) }
     ensures exactly { IfOk result (λ verdict. (verdict ≡ Holds) ↔ CertHolds graph.now (cert_of cert.now) upper) }
     ensures bounded { result ≡ Ok Holds → IsBounded graph.now (all_edges graph.now) upper }
@@ -30,5 +33,6 @@ pub fn check_cert(
     let _edges = graph.edge_count();
     match cert {
         Cert::Table(table) => check_table(alloc, graph, table.rows(), upper),
+        Cert::Bounds(bound) => check_bound(alloc, graph, bound, upper),
     }
 }

@@ -21,6 +21,17 @@ pub enum EntryPlace {
     Cert(Place),
     /// There is a gap, though the graph has only so many colours, at most 12.
     FewColours(u32),
+    /// There is a gap, and the bound has so many splits, which are not the budget.
+    Splits(u32),
+    /// There is a gap, and the upper bound is not the greatest total of the leaves, which is this.
+    Loose(i64),
+    /// There is a gap, and the total of this leaf, by its node, is above the cap of its set, as no earlier one's is.
+    Slack(u32),
+    /// There is a gap, and the cap of the set of this split, by its node, is below the upper bound, as no earlier one's is.
+    Wasted(u32),
+    /// There is a gap, and the total of this leaf, by its node, is above the score, though its set has at most one edge
+    /// into each colour, and no earlier one is so.
+    Decided(u32),
 }
 
 /// What is said of the tree of a candidate.

@@ -1,8 +1,10 @@
 //! Worked examples of trees that are right and of trees that are wrong, with the first place where they are.
-ghost use Rattle.std.specs.Prelude.{◌≡◌, ◌≤◌, ◌≤ℤ◌, [], negsuc, pos, IsTrue, length, slice_index_or};
+ghost use Rattle.std.specs.Prelude.{◌≡◌, ◌≤◌, ◌≤ℤ◌, [], negsuc, pos, IfOk, IsTrue, length, slice_index_or};
 ghost use Rattle.std.specs.List.{All};
 ghost use Rattle.element_table.specs.Elements.{greatest_count};
 ghost use Rattle.element_table.specs.Formula.{IsProperPart};
+ghost use Rattle.tree_certificate.specs.CertHolds.{cert_depth, cert_splits};
+ghost use Rattle.tree_certificate.specs.Value.{cert_of};
 
 use crate::EntryVerdict::{Right, Wrong};
 use crate::{EntryPlace, EntryVerdict, Place, check_entry};
@@ -161,13 +163,16 @@ fn expect(
             rows: TreeRows::of(Vec::from_slice(alloc, rows)?),
             cert: table_of(alloc, table)?,
         };
-        assert_eq!(rt; check_entry(alloc, built, &tree)?, *said);
+        assert_eq!(rt; check_entry(alloc, built, &tree, 0)?, *said);
     }
     Ok(())
 }
 
 /// A certificate that is a table.
-fn table_of(alloc: Global, rows: &[&[i64]]) -> Result<Cert, Fail> {
+fn table_of(alloc: Global, rows: &[&[i64]]) -> Result<Cert, Fail>
+    ensures depth { IfOk result (λ cert. cert_depth (cert_of cert) ≡ 0) }
+    ensures splits { IfOk result (λ cert. cert_splits (cert_of cert) ≡ 0) }
+{
     let mut table = Vec::new(alloc);
     for row in rows {
         table.push(row.to_vec(alloc)?)?;

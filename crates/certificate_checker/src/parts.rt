@@ -1,36 +1,22 @@
-//! What a number of a table is to be at least, by a walk over the parts of a set of colours.
-ghost use Rattle.std.specs.Prelude.{◌≡◌, ◌<◌, false, length};
-ghost use Rattle.certificate_checker.specs.inside.Enough.{AreGainsBelow, AreNoGains, AreNumbersBelow, IsGain, IsLeastEnough, IsNumber, IsRaised};
+//! What a number of a table is to be at least, by a walk over the parts of a set of colours that a head may need.
+ghost use Rattle.std.specs.Prelude.{◌<◌, length};
+ghost use Rattle.certificate_checker.specs.inside.Enough.{AreGainsBelow, AreNumbersBelow, AreUseful, IsGain, IsLeastEnough, IsNumber, IsRaised};
 
-/// The least number that is enough for a set, by a vertex's numbers for the sets of the colours behind one and by what
-/// the edges from it into that colour gain, if there are any.
-pub(crate) fn least_enough(own: &[i64], gains: &[i64], any: bool, set: usize) -> i64
+/// The least number that is enough for a set, by a walk over all its parts that a head may need, the greatest first.
+pub(crate) fn least_enough(own: &[i64], gains: &[i64], useful: usize, set: usize) -> i64
     requires room { (set < length own.now) × (set < length gains.now) }
     requires numbers { AreNumbersBelow own.now (length own.now) }
     requires gains { AreGainsBelow gains.now (length own.now) }
-    requires none { any ≡ false → AreNoGains gains.now (length own.now) }
-    ensures { IsLeastEnough own.now gains.now set result }
-{
-    if any {
-        greatest_sum(own, gains, set)
-    } else {
-        own[set]
-    }
-}
-
-/// The least number that is enough for a set, by a walk over all its parts, the greatest first.
-fn greatest_sum(own: &[i64], gains: &[i64], set: usize) -> i64
-    requires room { (set < length own.now) × (set < length gains.now) }
-    requires numbers { AreNumbersBelow own.now (length own.now) }
-    requires gains { AreGainsBelow gains.now (length own.now) }
+    requires useful { AreUseful own.now gains.now (length own.now) useful }
     ensures { IsLeastEnough own.now gains.now set result }
 {
     let whole = own[set];
     let mut most = raised(whole, gains[0], whole);
-    let mut part = set;
+    let parts = set & useful;
+    let mut part = parts;
     while part > 0 {
         most = raised(most, gains[part], own[set - part]);
-        part = (part - 1) & set;
+        part = (part - 1) & parts;
     }
     most
 }

@@ -15,7 +15,7 @@ use colour_graph::{ColourGraph, VertexId};
 use std::alloc::{AllocError, Global};
 
 /// A table is of a graph with at most so many colours.
-const GREATEST_COLOURS: u32 = 12;
+pub(crate) const GREATEST_COLOURS: u32 = 12;
 
 /// Whether a table of these rows holds for an upper bound, or the first place where it fails.
 pub(crate) fn check_table(

@@ -6,6 +6,7 @@ ghost use Rattle.tree_certificate.specs.TableHolds.{FitsGraph, greatest_colours}
 ghost use Rattle.certificate_checker.specs.inside.Enough.{AreGainsBelow, AreNoGains, AreNumbersBelow};
 ghost use Rattle.certificate_checker.specs.inside.Low.{IsEarlier, IsFoundOfSizes, IsFoundOfVertex, IsFoundSet};
 
+use crate::colours::colours_of;
 use crate::gains::{copy_numbers, gather_gains, row_of};
 use crate::low::Low;
 use crate::parts::least_enough;
@@ -113,9 +114,14 @@ fn first_low_set(row: &[i64], step: usize, own: &[i64], gains: &[i64], any: bool
     requires none { any ≡ false → AreNoGains gains.now (length own.now) }
     ensures { IsFoundSet row.now own.now gains.now step (length own.now) result }
 {
+    let colours = colours_of(own, gains, any);
     for set in 0..own.len() {
         let place = step * (1 + 2 * set);
-        let needed = least_enough(own, gains, any, set);
+        let part = set & colours.telling;
+        if part < set && row[step * (1 + 2 * part)] <= row[place] {
+            continue;
+        }
+        let needed = least_enough(own, gains, colours.useful, set);
         if row[place] < needed {
             return Some(Low { place, needed });
         }

@@ -7,7 +7,7 @@ use Rattle.colour_graph.specs.inside.Sets.{AreBack}
 use Rattle.colour_graph.proofs.Sets.{in_row, is_allowed-keeping, keeping-same, length-keeping}
 
 -- the row of a colour
-in_row-is : (graph : Graph) (colour first past edge : ℕ) → AreInto graph colour first past → edge < length graph.edges → in_row first past edge ≡ eqb (head_colour graph edge) colour
+pub in_row-is : (graph : Graph) (colour first past edge : ℕ) → AreInto graph colour first past → edge < length graph.edges → in_row first past edge ≡ eqb (head_colour graph edge) colour
 in_row-is graph colour first past edge into at = choose (cases_eq (head_colour graph edge) colour)
   where
     choose : (head_colour graph edge ≡ colour) ⊎ (head_colour graph edge ≡ colour → ⊥) → in_row first past edge ≡ eqb (head_colour graph edge) colour

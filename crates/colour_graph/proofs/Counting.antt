@@ -16,7 +16,7 @@ goes_to graph allowed colour edge = is_allowed allowed edge && eqb (head_colour 
 abbrev pub count_below : Graph → List Bool → ℕ → ℕ → ℕ
 count_below graph allowed colour place = length (filter (goes_to graph allowed colour) (range_with_len 0 place))
 
-range-more : (place : ℕ) → range_with_len 0 (place + 1) ≡ range_with_len 0 place ++ place ∷ []
+pub range-more : (place : ℕ) → range_with_len 0 (place + 1) ≡ range_with_len 0 place ++ place ∷ []
 range-more place = sym (map-id (range_with_len 0 (place + 1))) ∙ map-range_with_len_more (λ (edge : ℕ). edge) 0 place place (omega arith) ∙ ap (λ front. front ++ place ∷ []) (map-id (range_with_len 0 place))
 
 pub count_below-more : (graph : Graph) (allowed : List Bool) (colour place : ℕ)

@@ -111,7 +111,7 @@ impl Allowed {
     }
 
     /// Puts an edge into the set.
-    fn put(&mut self, edge: EdgeId)
+    pub fn put(&mut self, edge: EdgeId)
         requires { edge < length self.old }
         ensures { self.new ≡ slice_set self.old edge true }
     {
@@ -119,7 +119,7 @@ impl Allowed {
     }
 
     /// Takes an edge out of the set.
-    fn take_out(&mut self, edge: EdgeId)
+    pub fn take_out(&mut self, edge: EdgeId)
         requires { edge < length self.old }
         ensures { self.new ≡ slice_set self.old edge false }
     {

@@ -17,7 +17,7 @@ use Rattle.mgf_reader.specs.declared.fault.MgfKind.TheVariants.{NoForm, LineTooL
 use Rattle.tree_certificate.specs.Document.{AreGoodLines, IsGoodLine}
 use Rattle.tree_certificate.specs.Line.{Field, a_word, a_number, a_signed, a_formula, a_mark, a_kind, a_title, some_numbers}
 use Rattle.tree_certificate.specs.Line.{Line, WritesAll, WritesField, WritesFields, WritesNumber, WritesSigned, field_text, form_of}
-use Rattle.tree_certificate.specs.Line.{is_field_in_range, is_number, word_of}
+use Rattle.tree_certificate.specs.Line.{is_field_in_range, is_number, is_shallow, word_of}
 use Rattle.tree_certificate.specs.Number.{is_near}
 use Rattle.tree_certificate.specs.Title.{are_bytes}
 
@@ -85,8 +85,8 @@ IsGoodField (a_formula counts) = IsFormula counts
 IsGoodField (a_mark mark) = ⊤
 IsGoodField (a_kind number) = (kind : MgfKind) × (number ≡ kind_number kind)
 IsGoodField (a_title title) = are_bytes title ≡ true
-IsGoodField (some_numbers count most numbers) =
-    (1 ≤ length numbers) × (length numbers ≤ count) × (list_all (is_near most) numbers ≡ true) × (most < 2 ^ 64)
+IsGoodField (some_numbers least count most numbers) =
+    (least ≤ length numbers) × (length numbers ≤ count) × (list_all (is_near most) numbers ≡ true) × (most < 2 ^ 64)
 
 -- a number of which none is too small
 pub within : (most number : ℕ) → number ≤ most → most < 2 ^ 64 → IsGoodField (a_number 0 most number)
@@ -100,7 +100,7 @@ field_in_range (a_formula counts) good = refl
 field_in_range (a_mark mark) good = refl
 field_in_range (a_kind number) good = refl
 field_in_range (a_title title) good = refl
-field_in_range (some_numbers count most numbers) good = and_from _ _ (le-leb (length numbers) count good.1) good.2
+field_in_range (some_numbers least count most numbers) good = and_from _ _ (le-leb (length numbers) count good.1) good.2
 
 field_written : (field : Field) → IsGoodField field → WritesField field (field_text field)
 field_written (a_word word) good = refl
@@ -112,7 +112,7 @@ field_written (a_kind number) good =
     let found = ap kind_of_number good.1 ∙ kind_found good.0 in
     (good.0, found, ap (λ kind. 32 ∷ word_of kind) found)
 field_written (a_title title) good = (good, refl)
-field_written (some_numbers count most numbers) good = (good.0, all_written most numbers good.3 good.2)
+field_written (some_numbers least count most numbers) good = (good.0, all_written most numbers good.3 good.2)
 
 fields_in_range : (fields : List Field) → AllByRecursion IsGoodField fields → list_all is_field_in_range fields ≡ true
 fields_in_range [] good = refl
@@ -123,10 +123,11 @@ fields_written [] good = refl
 fields_written (field ∷ fields) good =
     (field_text field, flat_map field_text fields, refl, field_written field good.0, fields_written fields good.1)
 
--- A line is good where each of its fields is.
-pub line_is_good : (line : Line) → AllByRecursion IsGoodField (form_of line).fields → IsGoodLine line
-line_is_good line good = record {
+-- A line that is no split is good where each of its fields is.
+pub line_is_good : (line : Line) → is_shallow line ≡ true → AllByRecursion IsGoodField (form_of line).fields → IsGoodLine line
+line_is_good line shallow good = record {
   in_range = fields_in_range (form_of line).fields good;
+  shallow = shallow;
   spelled = (flat_map field_text (form_of line).fields, refl, fields_written (form_of line).fields good);
 }
 

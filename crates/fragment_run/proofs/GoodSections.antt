@@ -48,18 +48,18 @@ pub range-measured : (spectrum : SpectrumValue) (choice : Choice) (mz : ℕ) →
 range-measured spectrum choice mz is measured = measured mz (range_of spectrum choice spectrum.precursor mz is)
 
 pub range_is_good : (mz : ℕ) → mz ≤ 10 ^ 18 → IsGoodLine (skip_line (Range mz))
-range_is_good mz few = line_is_good (skip_line (Range mz)) (tt, (within (10 ^ 18) mz few (omega arith), tt))
+range_is_good mz few = line_is_good (skip_line (Range mz)) refl (tt, (within (10 ^ 18) mz few (omega arith), tt))
 
 pub too_many_is_good : (mz : ℕ) → mz ≤ 10 ^ 18 → IsGoodLine (skip_line (TooMany mz))
-too_many_is_good mz few = line_is_good (skip_line (TooMany mz)) (tt, (within (10 ^ 18) mz few (omega arith), tt))
+too_many_is_good mz few = line_is_good (skip_line (TooMany mz)) refl (tt, (within (10 ^ 18) mz few (omega arith), tt))
 
 list_is_good : (choice : Choice) (list : FormulaListValue) → IsList choice list → All IsFormula list.formulas → AreGoodLines (list_lines list)
 list_is_good choice list is formulas = (
-  line_is_good (list_line list.mz list.intensity (length list.formulas)) (
+  line_is_good (list_line list.mz list.intensity (length list.formulas)) refl (
     within (10 ^ 18) list.mz is.mz (omega arith),
     (within (10 ^ 18) list.intensity is.intensity (omega arith), (within 20000 (length list.formulas) is.few (omega arith), tt)),
   ),
-  good-map formula_line list.formulas (λ k d before. line_is_good (formula_line _) (formulas k d before, tt)),
+  good-map formula_line list.formulas (λ k d before. line_is_good (formula_line _) refl (formulas k d before, tt)),
 )
 
 -- what a spectrum's lists and entries are told by
@@ -68,10 +68,10 @@ pub solved_is_good : (choice : Choice) (solved : SolvedRead) → 0 < length solv
     → length solved.entries ≤ 20000 → All (λ entry. AreGoodLines (entry_lines entry)) solved.entries
     → AreGoodLines (body_lines (Solved solved))
 solved_is_good choice solved some few lists formulas few_entries entries = (
-  line_is_good (lists_line (length solved.lists)) ((some, few, omega arith), tt),
+  line_is_good (lists_line (length solved.lists)) refl ((some, few, omega arith), tt),
   good-append (flat_map list_lines solved.lists) (entries_line (length solved.entries) ∷ flat_map entry_lines solved.entries)
       (good-flat_map list_lines solved.lists (λ k d before. list_is_good choice _ (lists k d before) (formulas k d before))) (
-        line_is_good (entries_line (length solved.entries)) (within 20000 (length solved.entries) few_entries (omega arith), tt),
+        line_is_good (entries_line (length solved.entries)) refl (within 20000 (length solved.entries) few_entries (omega arith), tt),
         good-flat_map entry_lines solved.entries entries,
       ),
 )
@@ -93,19 +93,19 @@ entries-few settings formulas entries same few =
 pub section_is_good : (section : Section) → section.line ≤ 4294967295 → are_bytes section.title ≡ true
     → AreGoodLines (body_lines section.body) → AreGoodLines (section_lines section)
 section_is_good section few title body = (
-  line_is_good (spectrum_line section.line section.title) (within 4294967295 section.line few (omega arith), (title, tt)),
-  good-append (body_lines section.body) (done_line ∷ []) body (line_is_good done_line tt, tt),
+  line_is_good (spectrum_line section.line section.title) refl (within 4294967295 section.line few (omega arith), (title, tt)),
+  good-append (body_lines section.body) (done_line ∷ []) body (line_is_good done_line refl tt, tt),
 )
 
 -- the line of an ending, and a document of sections
 pub refusal_is_good : (line : ℕ) (kind : MgfKind) → line ≤ 4294967295 → IsGoodLine (refused_line line (kind_number kind))
 refusal_is_good line kind few =
-    line_is_good (refused_line line (kind_number kind)) (tt, (within 4294967295 line few (omega arith), ((kind, refl), tt)))
+    line_is_good (refused_line line (kind_number kind)) refl (tt, (within 4294967295 line few (omega arith), ((kind, refl), tt)))
 
 pub document_is_good : (document : Document) → All (λ section. AreGoodLines (section_lines section)) document.sections
     → IsGoodLine (ending_line document.ending) → IsGood document
 document_is_good document sections ending = (
-  line_is_good header_line (tt, tt),
+  line_is_good header_line refl (tt, tt),
   good-append (flat_map section_lines document.sections) (ending_line document.ending ∷ [])
       (good-flat_map section_lines document.sections sections) (ending, tt),
 )

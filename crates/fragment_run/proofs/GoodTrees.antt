@@ -1,6 +1,6 @@
 -- `HasGoodLines`: the lines of a right tree of a small graph, with its table, and of a graph that is too large.
 use Rattle.std.proofs.Common.{◌≡◌, ◌≤◌, ◌<◌, ◌-◌, ◌*◌, ◌^◌, ◌∷◌, ◌∙◌, [], ℕ, zero, suc, ℤ, pos, negsuc, ◌+ℤ◌, ◌≤ℤ◌, true, List, length, get_or}
-use Rattle.std.proofs.Common.{slice_index, unsigned_abs, sym, subst, ap, arith}
+use Rattle.std.proofs.Common.{slice_index, unsigned_abs, refl, sym, subst, ap, arith}
 use Rattle.std.proofs.lemmas.Bool.{and_parts}
 use Rattle.std.proofs.lemmas.Int.{ints}
 use Rattle.std.proofs.lemmas.List.{get_or_default, length-map}
@@ -87,7 +87,7 @@ row_is_good built rows place small few row =
     subst (λ (z : ℤ). unsigned_abs z ≤ 100000) (sym row.weight) (score-near _ edge.weight) in
     let formula : IsFormula here.formula = subst IsFormula (sym row.formula) head in
     let loss : IsFormula here.loss = subst IsFormula (sym row.loss) (small.losses _ _ tail head) in
-    line_is_good (row_line here) (
+    line_is_good (row_line here) refl (
       within 131071 here.edge number (omega arith),
       (
         within 512 here.parent parent (omega arith),
@@ -107,7 +107,7 @@ table_is_good : (graph : Graph) (rows : List (List ℤ)) → length graph.colour
     → AreGoodLines (cert_lines (a_table rows))
 table_is_good graph rows few fits near =
     let count : length rows ≤ 512 = omega (arith, fits.count) in
-    (line_is_good (table_line (length rows)) (within 512 (length rows) count (omega arith), tt), good-map table_row_line rows row_good)
+    (line_is_good (table_line (length rows)) refl (within 512 (length rows) count (omega arith), tt), good-map table_row_line rows row_good)
   where
     row_good : All (λ row. IsGoodLine (table_row_line row)) rows
     row_good place d before =
@@ -117,15 +117,15 @@ table_is_good graph rows few fits near =
         let same : get_or rows place d ≡ get_or rows place [] = get_or_default rows place d [] before in
         let long : length (get_or rows place d) ≡ 2 ^ size =
         ap length same ∙ (fits.each place (omega (arith, fits.count))).1 in
-        line_is_good (table_row_line (get_or rows place d))
+        line_is_good (table_row_line (get_or rows place d)) refl
         ((omega (arith, some, long), omega (arith, most, long), near_at rows near place d before, omega arith), tt)
 
 -- the lines of a right tree are good
-pub tree_is_good : (built : LossGraphValue) (tree : TreeValue) (table : List (List ℤ)) → IsSmall built → EntryIsRight built tree
+pub tree_is_good : (built : LossGraphValue) (tree : TreeValue) (table : List (List ℤ)) (budget : ℕ) → IsSmall built → EntryIsRight built tree budget
     → length tree.rows ≤ 512 → tree.upper ≡ tree.score → tree.cert ≡ a_table table → FitsGraph built.graph table → AreNumbers table
     → HasGoodLines (Tree tree)
-tree_is_good built tree table small right few upper is_table fits near candidate error formula few_off = (
-  line_is_good (tree_line candidate error tree.score tree.upper tree.mark (length tree.rows)) (
+tree_is_good built tree table budget small right few upper is_table fits near candidate error formula few_off = (
+  line_is_good (tree_line candidate error tree.score tree.upper tree.mark (length tree.rows)) refl (
     formula,
     (
       within 2000000 error few_off (omega arith),
@@ -158,7 +158,7 @@ tree_is_good built tree table small right few upper is_table fits near candidate
 -- the line of a graph that is too large is good
 pub too_large_is_good : (vertices : ℕ) → vertices < 2 ^ 32 → HasGoodLines (TooLarge vertices)
 too_large_is_good vertices few candidate error formula few_off = (
-  line_is_good (too_large_line candidate error vertices)
+  line_is_good (too_large_line candidate error vertices) refl
       (formula, (within 2000000 error few_off (omega arith), (tt, (within 4294967295 vertices (omega arith) (omega arith), tt)))),
   tt,
 )

@@ -35,8 +35,8 @@ use Rattle.fragment_run.proofs.OneEach.{OneEach-at, length-OneEach}
 
 -- a tree that is wrong somewhere is not right
 abbrev pub NoWrongTree : Type 0
-NoWrongTree = (built : LossGraphValue) (tree : TreeValue) (place : EntryPlace) → IsEntryPlace built tree place
-    → EntryIsRight built tree → ⊥
+NoWrongTree = (built : LossGraphValue) (tree : TreeValue) (budget : ℕ) (place : EntryPlace)
+    → IsEntryPlace built tree budget place → EntryIsRight built tree budget → ⊥
 
 -- what holds of all items holds of the one at a place
 all_at : {X : Type 0} (P : X → Type 0) (items : List X) (place : ℕ) (item : X) → All P items → slice_get items place ≡ Some item
@@ -49,7 +49,7 @@ first_wrong P entries number is all = is.wrong (all_at P entries is.place is.ite
 
 no_tree_place : NoWrongTree → (settings : SolveSettingsValue) (lists : List FormulaListValue) (candidate : List ℕ) (found : Outcome)
     (place : EntryPlace) → IsPlaceIn settings lists candidate found place → TreeIsRight settings lists candidate found → ⊥
-no_tree_place wrong settings lists candidate (outcome.Tree tree) place is right = wrong _ tree place is right.0
+no_tree_place wrong settings lists candidate (outcome.Tree tree) place is right = wrong _ tree settings.budget place is right.0
 no_tree_place wrong settings lists candidate (outcome.TooLarge vertices) place is right = is
 
 no_order_place : (entries : List Entry) (number : ℕ) → IsOrderPlace entries number

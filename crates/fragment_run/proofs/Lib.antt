@@ -23,6 +23,7 @@ pub mod IsReached
 pub mod IsSectionsPlace
 pub mod SameEnding
 pub mod IsReading
+pub mod EachCert
 pub mod IsDocumentPlace
 pub mod OneOutcome
 pub mod RankCmp

@@ -37,7 +37,7 @@ SizeIsRight settings lists candidate (TooLarge vertices) =
 -- a tree is right for the graph of the candidate, of which no colourful tree scores more than its upper bound
 abbrev pub TreeIsRight : SolveSettingsValue → List FormulaListValue → List ℕ → Outcome → Type 0
 TreeIsRight settings lists candidate (Tree tree) =
-    EntryIsRight (graph_of settings lists candidate) tree
+    EntryIsRight (graph_of settings lists candidate) tree settings.budget
     × IsBounded (graph_of settings lists candidate).graph (all_edges (graph_of settings lists candidate).graph) tree.upper
 TreeIsRight settings lists candidate (TooLarge vertices) = ⊤
 

@@ -46,6 +46,7 @@ refusal_text OutOfMemory = codes "no memory"
 abbrev pub document_refusal_text : CertFault → List ℕ
 document_refusal_text (cert.BadLine line) = codes "line " ++ decimal line ++ codes ": bad line"
 document_refusal_text (cert.TooBig line) = codes "line " ++ decimal line ++ codes ": too big"
+document_refusal_text (cert.TooDeep line) = codes "line " ++ decimal line ++ codes ": too deep"
 document_refusal_text cert.Truncated = codes "truncated"
 document_refusal_text cert.OutOfMemory = codes "no memory"
 

@@ -20,13 +20,14 @@ pub struct RunSettings {
     pub sieve: Sieve,
 }
 
-/// What trees are found under: what lists are made under, the rules that a candidate has to pass, and the tables of
-/// scores.
+/// What trees are found and checked under: what lists are made under, the rules that a candidate has to pass, the tables of
+/// scores, and the budget of splits.
 #[derive(Drop)]
 pub struct SolveSettings<'a> {
     pub listing: RunSettings,
     pub candidate_rules: Vec<Rule>,
     pub scores: &'a Scores,
+    pub budget: u32,
 }
 
 /// What trees are found under by a profile, for ions of an adduct.
@@ -49,6 +50,7 @@ pub fn solve_settings(
         },
         candidate_rules,
         scores: &profile.scores,
+        budget: profile.budget,
     }
 }
 

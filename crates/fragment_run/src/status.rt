@@ -146,6 +146,7 @@ fn document_refusal(alloc: Global, fault: CertFault) -> Result<Vec<u8>, AllocErr
     match fault {
         CertFault::BadLine(number) => numbered(alloc, "document: line ", number, ": bad line\n"),
         CertFault::TooBig(number) => numbered(alloc, "document: line ", number, ": too big\n"),
+        CertFault::TooDeep(number) => numbered(alloc, "document: line ", number, ": too deep\n"),
         CertFault::Truncated => line(alloc, "document: truncated", ""),
         CertFault::OutOfMemory => line(alloc, "document: no memory", ""),
     }

@@ -587,6 +587,11 @@ fn each_status_has_its_code_and_line(rt: HostRuntime) -> Result<(), Fail> {
             "document: line 4294967295: too big\n",
         ),
         (
+            Status::DocumentRefused(CertFault::TooDeep(1_030)),
+            10,
+            "document: line 1030: too deep\n",
+        ),
+        (
             Status::DocumentRefused(CertFault::Truncated),
             10,
             "document: truncated\n",

@@ -1,5 +1,5 @@
 -- Documents with the same lines are the same, and so are their parts, whatever lines stand behind them.
-use Rattle.std.proofs.Common.{◌≡◌, ◌∙◌, ℕ, ℤ, List, [], ◌∷◌, ◌++◌, length, map, refl, sym, arith}
+use Rattle.std.proofs.Common.{◌≡◌, ◌+◌, ◌∙◌, ℕ, ℤ, List, [], ◌∷◌, ◌++◌, length, map, refl, sym, arith}
 use Rattle.std.specs.List.{flat_map}
 use Rattle.std.proofs.lemmas.List.{append_assoc}
 use Rattle.tree_certificate.specs.declared.document.Skip.{Skip}
@@ -12,9 +12,10 @@ use Rattle.tree_certificate.specs.declared.entry.Mark.{Mark}
 use Rattle.tree_certificate.specs.declared.entry.Outcome.{Outcome}
 use Rattle.tree_certificate.specs.declared.entry.Outcome.TheVariants.{Tree, TooLarge}
 use Rattle.tree_certificate.specs.declared.entry.TreeRow.{TreeRow}
-use Rattle.tree_certificate.specs.Value.{a_table}
-use Rattle.tree_certificate.specs.Line.{Line, header_line, refused_line, spectrum_line, skip_line, lists_line, list_line, formula_line, entries_line, too_large_line, tree_line, row_line, table_line, table_row_line, done_line}
-use Rattle.tree_certificate.specs.Document.{body_lines, cert_lines, ending_line, entry_lines, lines_of, list_lines, outcome_lines, section_lines}
+use Rattle.tree_certificate.specs.BoundValue.{BoundValue, priced, split}
+use Rattle.tree_certificate.specs.Value.{a_bound, a_table}
+use Rattle.tree_certificate.specs.Line.{Line, header_line, refused_line, spectrum_line, skip_line, lists_line, list_line, formula_line, entries_line, too_large_line, tree_line, row_line, table_line, table_row_line, split_line, prices_line, potentials_line, done_line}
+use Rattle.tree_certificate.specs.Document.{body_lines, bound_lines, cert_lines, ending_line, entry_lines, lines_of, list_lines, outcome_lines, section_lines}
 
 -- parts whose lines are the same, with anything behind them, are the same
 abbrev Apart : {X : Type 0} → (X → List Line) → Type 0
@@ -67,11 +68,56 @@ list_apart a b r s is =
 table_is : (n k : ℕ) → table_line n ≡ table_line k → n ≡ k
 table_is n k is = (cc)
 
+prices_is : (a b : List ℤ) → prices_line a ≡ prices_line b → a ≡ b
+prices_is a b is = (cc)
+
+potentials_is : (a b : List ℤ) → potentials_line a ≡ potentials_line b → a ≡ b
+potentials_is a b is = (cc)
+
+split_is : (u v c d : ℕ) (p q : List ℕ) → split_line u c p ≡ split_line v d q → (c ≡ d) × (p ≡ q)
+split_is u v c d p q is = let first : c ≡ d = cc in let second : p ≡ q = cc in (first, second)
+
+not_split : (a : List ℤ) (u c : ℕ) (p : List ℕ) → prices_line a ≡ split_line u c p → ⊥
+not_split a u c p is = (cc)
+
+bound_apart : (above : ℕ) → Apart (bound_lines above)
+bound_apart above (priced a) (priced b) r s is =
+    let prices = prices_is a.prices b.prices (first_is _ _ (potentials_line a.potentials ∷ r) (potentials_line b.potentials ∷ s) is) in
+    let behind = rest_is _ _ (potentials_line a.potentials ∷ r) (potentials_line b.potentials ∷ s) is in
+    let potentials = potentials_is a.potentials b.potentials (first_is _ _ r s behind) in
+    (λ i. priced (record { prices = prices i; potentials = potentials i }), rest_is _ _ r s behind)
+bound_apart above (priced a) (split d q x y) r s is =
+    absurd (not_split a.prices above d q (first_is _ _ (potentials_line a.potentials ∷ r) ((bound_lines (above + 1) x ++ bound_lines (above + 1) y) ++ s) is))
+bound_apart above (split c p f g) (priced b) r s is =
+    absurd (not_split b.prices above c p (sym (first_is _ _ ((bound_lines (above + 1) f ++ bound_lines (above + 1) g) ++ r) (potentials_line b.potentials ∷ s) is)))
+bound_apart above (split c p f g) (split d q x y) r s is =
+    let mine : List Line = (bound_lines (above + 1) f ++ bound_lines (above + 1) g) ++ r in
+    let its : List Line = (bound_lines (above + 1) x ++ bound_lines (above + 1) y) ++ s in
+    let head = split_is above above c d p q (first_is _ _ mine its is) in
+    let one = bound_apart (above + 1) f x (bound_lines (above + 1) g ++ r) (bound_lines (above + 1) y ++ s)
+    (sym (append_assoc (bound_lines (above + 1) f) (bound_lines (above + 1) g) r) ∙ rest_is _ _ mine its is ∙ append_assoc (bound_lines (above + 1) x) (bound_lines (above + 1) y) s) in
+    let other = bound_apart (above + 1) g y r s one.1 in
+    (λ i. split (head.0 i) (head.1 i) (one.0 i) (other.0 i), other.1)
+
+table_not_prices : (count : ℕ) (a : List ℤ) → table_line count ≡ prices_line a → ⊥
+table_not_prices count a is = (cc)
+
+table_not_split : (count u c : ℕ) (p : List ℕ) → table_line count ≡ split_line u c p → ⊥
+table_not_split count u c p is = (cc)
+
+-- a bound does not begin as a table does
+no_table : (count above : ℕ) (bound : BoundValue) (r s : List Line) → table_line count ∷ r ≡ bound_lines above bound ++ s → ⊥
+no_table count above (priced b) r s is = absurd (table_not_prices count b.prices (first_is _ _ r (potentials_line b.potentials ∷ s) is))
+no_table count above (split c p f g) r s is = absurd (table_not_split count above c p (first_is _ _ r ((bound_lines (above + 1) f ++ bound_lines (above + 1) g) ++ s) is))
+
 cert_apart : Apart cert_lines
 cert_apart (a_table rows) (a_table others) r s is =
     let long = table_is (length rows) (length others) (first_is _ _ (map table_row_line rows ++ r) (map table_row_line others ++ s) is) in
     let same = many_lines table_row_line table_row_is rows others r s long (rest_is _ _ (map table_row_line rows ++ r) (map table_row_line others ++ s) is) in
     (λ i. a_table (same.0 i), same.1)
+cert_apart (a_bound bound) (a_bound other) r s is = let same = bound_apart 0 bound other r s is in (λ i. a_bound (same.0 i), same.1)
+cert_apart (a_table rows) (a_bound other) r s is = absurd (no_table (length rows) 0 other (map table_row_line rows ++ r) s is)
+cert_apart (a_bound bound) (a_table others) r s is = absurd (no_table (length others) 0 bound (map table_row_line others ++ s) r (sym is))
 
 record TreeParts (c d : List ℕ) (e f : ℕ) (g h : ℤ) (u v : ℤ) (m o : Mark) (n k : ℕ) : Type 0 where
   candidate : c ≡ d

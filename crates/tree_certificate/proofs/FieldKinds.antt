@@ -164,7 +164,7 @@ in_complete laws kind_kind value token is = ap kind_in is.2 ∙ ap (option_map k
 abbrev pub Sound : (kind : Kind) → List ℕ → Of kind → Type 0
 Sound kind token v = (value : Of kind) × IsToken kind value token × (v ≡ capped_of kind value)
 
-number_sound : (token : List ℕ) (v : ℕ) (b : Bool) → is_number token ≡ b → cond b (Some (capped (digits_value 10 token))) None ≡ Some v → (n : ℕ) × WritesNumber n token × (v ≡ capped n)
+pub number_sound : (token : List ℕ) (v : ℕ) (b : Bool) → is_number token ≡ b → cond b (Some (capped (digits_value 10 token))) None ≡ Some v → (n : ℕ) × WritesNumber n token × (v ≡ capped n)
 number_sound token v true good read = (digits_value 10 token, (good, refl), cc)
 number_sound token v false bad read = (cc)
 
@@ -267,7 +267,7 @@ range_kept formula_kind value good = refl
 range_kept mark_kind value good = refl
 range_kept kind_kind value good = refl
 
-capped_below : (n most : ℕ) → leb most 1000000000000000000 ≡ true → leb n most ≡ true → capped n ≡ n
+pub capped_below : (n most : ℕ) → leb most 1000000000000000000 ≡ true → leb n most ≡ true → capped n ≡ n
 capped_below n most small is =
     let le : n ≤ most = leb-true n most is in
     let below : most ≤ 1000000000000000000 = leb-true most 1000000000000000000 small in

@@ -1,7 +1,8 @@
 -- What the needs take, from the first to the last line, is the lines of a document, and every document's lines are taken so.
-use Rattle.std.proofs.Common.{◌≡◌, ◌∙◌, ℕ, zero, suc, ℤ, List, [], ◌∷◌, ◌++◌, length, map, Option, Some, None, refl, sym, ap, subst}
+use Rattle.std.proofs.Common.{◌≡◌, ◌+◌, ◌==◌, ◌∙◌, ℕ, Bool, true, false, cond, zero, suc, ℤ, List, [], ◌∷◌, ◌++◌, length, map, Option, Some, None, refl, sym, ap, subst}
 use Rattle.std.specs.Prelude.{replicate}
 use Rattle.std.specs.List.{flat_map}
+use Rattle.std.proofs.lemmas.Bool.{eq-eqb, eqb-true}
 use Rattle.std.proofs.lemmas.List.{append-nil, append_assoc}
 use Rattle.element_table.specs.FormulaList.{FormulaListValue}
 use Rattle.tree_certificate.specs.declared.document.Body.{Body}
@@ -14,10 +15,11 @@ use Rattle.tree_certificate.specs.declared.entry.Outcome.{Outcome}
 use Rattle.tree_certificate.specs.declared.entry.Outcome.TheVariants.{Tree, TooLarge}
 use Rattle.tree_certificate.specs.declared.entry.Entry.{Entry}
 use Rattle.tree_certificate.specs.declared.entry.TreeRow.{TreeRow}
-use Rattle.tree_certificate.specs.Value.{CertValue, a_table}
-use Rattle.tree_certificate.specs.Line.{Line, header_line, clean_line, refused_line, spectrum_line, skip_line, lists_line, list_line, formula_line, entries_line, too_large_line, tree_line, row_line, table_line, table_row_line, done_line}
-use Rattle.tree_certificate.specs.Document.{body_lines, cert_lines, ending_line, entry_lines, lines_of, list_lines, outcome_lines, section_lines}
-use Rattle.tree_certificate.specs.inside.Need.{Need, need_document, need_sections, need_body, need_list, need_formula, need_entries, need_entry, need_row, need_cert, need_table_row, need_done, follow}
+use Rattle.tree_certificate.specs.BoundValue.{BoundValue, priced, split}
+use Rattle.tree_certificate.specs.Value.{CertValue, a_bound, a_table}
+use Rattle.tree_certificate.specs.Line.{Line, header_line, clean_line, refused_line, spectrum_line, skip_line, lists_line, list_line, formula_line, entries_line, too_large_line, tree_line, row_line, table_line, table_row_line, split_line, prices_line, potentials_line, done_line}
+use Rattle.tree_certificate.specs.Document.{body_lines, bound_lines, cert_lines, ending_line, entry_lines, lines_of, list_lines, outcome_lines, section_lines}
+use Rattle.tree_certificate.specs.inside.Need.{Need, need_document, need_sections, need_body, need_list, need_formula, need_entries, need_entry, need_row, need_cert, need_table_row, need_bound, need_potentials, need_done, follow}
 
 -- lines that lead from some needs to others
 abbrev pub Leads : List Line → List Need → List Need → Type 0
@@ -37,6 +39,8 @@ Value need_entry = Entry
 Value need_row = TreeRow
 Value need_cert = CertValue
 Value need_table_row = List ℤ
+Value (need_bound under) = BoundValue
+Value need_potentials = List ℤ
 Value need_done = Unit {0}
 
 abbrev pub value_lines : (need : Need) → Value need → List Line
@@ -50,6 +54,8 @@ value_lines need_entry it = entry_lines it
 value_lines need_row it = row_line it ∷ []
 value_lines need_cert it = cert_lines it
 value_lines need_table_row it = table_row_line it ∷ []
+value_lines (need_bound under) it = bound_lines under it
+value_lines need_potentials it = potentials_line it ∷ []
 value_lines need_done it = done_line ∷ []
 
 abbrev pub All : List Need → Type 0
@@ -93,6 +99,16 @@ abbrev Builds : (need : Need) → Line → Option (List Need) → Type 0
 Builds need line None = Unit {0}
 Builds need line (Some more) = (values : All more) → (value : Value need) × (value_lines need value ≡ line ∷ all_lines more values)
 
+-- a split under as many splits as are told begins a bound, once those of its sides are there
+build_split : (above under : ℕ) (colour : ℕ) (part : List ℕ) (b : Bool) → (above == under) ≡ b
+    → Builds (need_bound under) (split_line above colour part) (cond b (Some (need_bound (under + 1) ∷ need_bound (under + 1) ∷ [])) None)
+build_split above under colour part false is = tt
+build_split above under colour part true is = λ values.
+    let same : under ≡ above = sym (eqb-true above under is) in (
+      split colour part values.0 values.1.0,
+      (λ i. split_line (same i) colour part ∷ (bound_lines (under + 1) values.0 ++ sym (append-nil (bound_lines (under + 1) values.1.0)) i)),
+    )
+
 build : (need : Need) (line : Line) → Builds need line (follow need line)
 build need_document header_line = λ values. (record { sections = values.0.0; ending = values.0.1 }, ap (λ t. header_line ∷ t) (sym (append-nil (flat_map section_lines values.0.0 ++ ending_line values.0.1 ∷ []))))
 build need_sections (spectrum_line line title) = λ values. (
@@ -131,6 +147,15 @@ build need_row (row_line it) = λ values. (it, refl)
 build need_cert (table_line count) = λ values.
     let parts = alone need_table_row count values in
     (a_table parts.0, (λ i. table_line (parts.1 i) ∷ map table_row_line parts.0) ∙ ap (λ t. table_line count ∷ t) (sym (singles table_row_line parts.0) ∙ sym parts.2))
+build need_cert (prices_line numbers) = λ values. (a_bound (priced (record { prices = numbers; potentials = values.0 })), refl)
+build need_cert (split_line above colour part) = as_cert _ (build_split above 0 colour part (above == 0) refl)
+  where
+    as_cert : (more : Option (List Need)) → Builds (need_bound 0) (split_line above colour part) more → Builds need_cert (split_line above colour part) more
+    as_cert None builds = tt
+    as_cert (Some more) builds = λ values. let built = builds values in (a_bound built.0, built.1)
+build (need_bound under) (prices_line numbers) = λ values. (priced (record { prices = numbers; potentials = values.0 }), refl)
+build (need_bound under) (split_line above colour part) = build_split above under colour part (above == under) refl
+build need_potentials (potentials_line numbers) = λ values. (numbers, refl)
 build need_table_row (table_row_line items) = λ values. (items, refl)
 build need_done done_line = λ values. (tt, refl)
 build need line = tt
@@ -172,12 +197,28 @@ takes_row value others left rest leads = ([], refl, leads)
 takes_table_row : (value : Value need_table_row) → Takes need_table_row value
 takes_table_row value others left rest leads = ([], refl, leads)
 
+takes_bound : (under : ℕ) (value : BoundValue) → Takes (need_bound under) value
+takes_bound under (priced cert) others left rest leads = (need_potentials ∷ [], refl, ([], refl, leads))
+takes_bound under (split colour part first second) others left rest leads = (
+  need_bound (under + 1) ∷ need_bound (under + 1) ∷ [],
+  ap (λ b. cond b (Some (need_bound (under + 1) ∷ need_bound (under + 1) ∷ [])) None) (eq-eqb under under refl),
+  moved ((bound_lines (under + 1) first ++ bound_lines (under + 1) second) ++ rest) (bound_lines (under + 1) first ++ (bound_lines (under + 1) second ++ rest)) _ left
+      (append_assoc (bound_lines (under + 1) first) (bound_lines (under + 1) second) rest)
+      (takes_bound (under + 1) first (need_bound (under + 1) ∷ others) left (bound_lines (under + 1) second ++ rest) (takes_bound (under + 1) second others left rest leads)),
+)
+
+-- a certificate begins as a bound under no split does
+as_cert : (value : BoundValue) (others left : List Need) (rest : List Line) → Leads (bound_lines 0 value ++ rest) (need_bound 0 ∷ others) left → Leads (bound_lines 0 value ++ rest) (need_cert ∷ others) left
+as_cert (priced cert) others left rest leads = leads
+as_cert (split colour part first second) others left rest leads = leads
+
 takes_cert : (value : Value need_cert) → Takes need_cert value
 takes_cert (a_table rows) others left rest leads = (
   replicate (length rows) need_table_row,
   refl,
   moved (map table_row_line rows ++ rest) _ _ left (ap (λ t. t ++ rest) (sym (singles table_row_line rows))) (many need_table_row takes_table_row rows others left rest leads),
 )
+takes_cert (a_bound bound) others left rest leads = as_cert bound others left rest (takes_bound 0 bound others left rest leads)
 
 takes_list : (value : Value need_list) → Takes need_list value
 takes_list value others left rest leads = (
@@ -252,6 +293,8 @@ takes_value need_entry value others left rest leads = takes_entry value others l
 takes_value need_row value others left rest leads = takes_row value others left rest leads
 takes_value need_cert value others left rest leads = takes_cert value others left rest leads
 takes_value need_table_row value others left rest leads = takes_table_row value others left rest leads
+takes_value (need_bound under) value others left rest leads = takes_bound under value others left rest leads
+takes_value need_potentials value others left rest leads = ([], refl, leads)
 takes_value need_done value others left rest leads = ([], refl, leads)
 
 -- the lines of all values are taken for their needs

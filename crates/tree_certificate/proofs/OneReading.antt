@@ -4,13 +4,14 @@ use Rattle.std.proofs.lemmas.List.{append-nil, append_assoc}
 use Rattle.mgf_reader.specs.Text.{ended_lines, unfinished_line}
 use Rattle.tree_certificate.specs.declared.document.Document.{Document}
 use Rattle.tree_certificate.specs.declared.fault.CertFault.{CertFault}
-use Rattle.tree_certificate.specs.declared.fault.CertFault.TheVariants.{BadLine, TooBig, Truncated, OutOfMemory}
+use Rattle.tree_certificate.specs.declared.fault.CertFault.TheVariants.{BadLine, TooBig, TooDeep, Truncated, OutOfMemory}
 use Rattle.tree_certificate.specs.Line.{Line}
-use Rattle.tree_certificate.specs.Document.{IsGood, lines_of, spelling_of}
-use Rattle.tree_certificate.specs.Reading.{Begins, IsAny, IsAnswer, IsBadLine, IsPastEnd, IsReading, IsRefusal, IsTooBig, IsTruncated, Spelled}
+use Rattle.tree_certificate.specs.Document.{IsGood, IsInRange, lines_of, spelling_of}
+use Rattle.tree_certificate.specs.Reading.{Begins, IsAny, IsAnswer, IsBadLine, IsPastEnd, IsReading, IsRefusal, IsTooBig, IsTooDeep, IsTruncated, Spelled}
 use Rattle.tree_certificate.specs.inside.Need.{need_document}
 use Rattle.tree_certificate.proofs.Apart.{same_document}
 use Rattle.tree_certificate.proofs.FieldKinds.{Known}
+use Rattle.tree_certificate.proofs.Finishing.{all_near}
 use Rattle.tree_certificate.proofs.Needs.{Leads, document_leads}
 use Rattle.tree_certificate.proofs.Plain.{spelled_text}
 use Rattle.tree_certificate.proofs.Running.{same_front}
@@ -46,8 +47,11 @@ begins_to : (Which : Document → Type 0) (texts before after : List (List ℕ))
 begins_to Which texts before after text is begins =
     begins_front Which (before ++ text ∷ []) after (subst (Begins Which) (is ∙ sym (append_assoc before (text ∷ []) after)) begins)
 
-any_begins : (texts : List (List ℕ)) → Begins IsGood texts → Begins IsAny texts
-any_begins texts begins = record { whole = begins.whole; which = tt; front = begins.front; rest = begins.rest; begins = begins.begins; spelled = begins.spelled }
+any_begins : (Which : Document → Type 0) (texts : List (List ℕ)) → Begins Which texts → Begins IsAny texts
+any_begins Which texts begins = record { whole = begins.whole; which = tt; front = begins.front; rest = begins.rest; begins = begins.begins; spelled = begins.spelled }
+
+near_begins : (texts : List (List ℕ)) → Begins IsGood texts → Begins IsInRange texts
+near_begins texts begins = record { whole = begins.whole; which = all_near (lines_of begins.whole) begins.which; front = begins.front; rest = begins.rest; begins = begins.begins; spelled = begins.spelled }
 
 -- a line that no good document has there, while one begins with the lines before it
 record Stops (texts : List (List ℕ)) (line : ℕ) : Type 0 where
@@ -67,11 +71,22 @@ stops_bad texts line is = record {
   stands = is.reached.stands;
   line_is = is.reached.line_is;
   good = is.reached.good;
-  none = λ begins. is.no_document (any_begins (is.before ++ is.text ∷ []) begins);
+  none = λ begins. is.no_document (any_begins IsGood (is.before ++ is.text ∷ []) begins);
 }
 
 abbrev stops_big : (texts : List (List ℕ)) (line : ℕ) → IsTooBig texts line → Stops texts line
 stops_big texts line is = record {
+  before = is.before;
+  text = is.text;
+  after = is.reached.after;
+  stands = is.reached.stands;
+  line_is = is.reached.line_is;
+  good = is.reached.good;
+  none = λ begins. is.no_document_in_range (near_begins (is.before ++ is.text ∷ []) begins);
+}
+
+abbrev stops_deep : (texts : List (List ℕ)) (line : ℕ) → IsTooDeep texts line → Stops texts line
+stops_deep texts line is = record {
   before = is.before;
   text = is.text;
   after = is.reached.after;
@@ -148,6 +163,22 @@ not_both texts line number bad big =
     let same = same_place texts line number (stops_bad texts line bad) (stops_big texts number big) in
     bad.no_document (subst {A = List (List ℕ)} (Begins IsAny) (λ i. sym same.0 i ++ sym same.1 i ∷ []) big.some_document)
 
+-- nor one that some document in its ranges has
+bad_not_deep : (texts : List (List ℕ)) (line number : ℕ) → IsBadLine texts line → IsTooDeep texts number → ⊥
+bad_not_deep texts line number bad deep =
+    let same = same_place texts line number (stops_bad texts line bad) (stops_deep texts number deep) in
+    let some = any_begins IsInRange (deep.before ++ deep.text ∷ []) deep.document_in_range in
+    bad.no_document (subst {A = List (List ℕ)} (Begins IsAny) (λ i. sym same.0 i ++ sym same.1 i ∷ []) some)
+
+not_big_and_deep : (texts : List (List ℕ)) (line number : ℕ) → IsTooBig texts line → IsTooDeep texts number → ⊥
+not_big_and_deep texts line number big deep =
+    let same = same_place texts line number (stops_big texts line big) (stops_deep texts number deep) in
+    big.no_document_in_range (subst {A = List (List ℕ)} (Begins IsInRange) (λ i. sym same.0 i ++ sym same.1 i ∷ []) deep.document_in_range)
+
+not_bad_and_deep : (texts : List (List ℕ)) (unfinished : List ℕ) (line number : ℕ) → IsRefusal texts unfinished (BadLine line) → IsTooDeep texts number → ⊥
+not_bad_and_deep texts unfinished line number (inl bad) deep = bad_not_deep texts line number bad deep
+not_bad_and_deep texts unfinished line number (inr past) deep = not_all texts number (stops_deep texts number deep) (past_begins texts unfinished line past)
+
 not_bad_and_big : (texts : List (List ℕ)) (unfinished : List ℕ) (line number : ℕ) → IsRefusal texts unfinished (BadLine line) → IsTooBig texts number → ⊥
 not_bad_and_big texts unfinished line number (inl bad) big = not_both texts line number bad big
 not_bad_and_big texts unfinished line number (inr past) big = not_all texts number (stops_big texts number big) (past_begins texts unfinished line past)
@@ -159,6 +190,9 @@ not_bad_and_cut known texts unfinished line (inr past) cut = not_cut known texts
 not_big_and_cut : (texts : List (List ℕ)) (line : ℕ) → IsTooBig texts line → IsTruncated texts → ⊥
 not_big_and_cut texts line big cut = not_all texts line (stops_big texts line big) (cut_begins texts cut)
 
+not_deep_and_cut : (texts : List (List ℕ)) (line : ℕ) → IsTooDeep texts line → IsTruncated texts → ⊥
+not_deep_and_cut texts line deep cut = not_all texts line (stops_deep texts line deep) (cut_begins texts cut)
+
 same_bad : (texts : List (List ℕ)) (unfinished : List ℕ) (line number : ℕ) → IsRefusal texts unfinished (BadLine line) → IsRefusal texts unfinished (BadLine number) → line ≡ number
 same_bad texts unfinished line number (inl bad) (inl also) = same_line texts line number (stops_bad texts line bad) (stops_bad texts number also)
 same_bad texts unfinished line number (inl bad) (inr past) = absurd (not_all texts line (stops_bad texts line bad) (past_begins texts unfinished number past))
@@ -168,13 +202,21 @@ same_bad texts unfinished line number (inr past) (inr also) = past.line_is ∙ s
 one_refusal : Known → (texts : List (List ℕ)) (unfinished : List ℕ) (one other : CertFault) → IsRefusal texts unfinished one → IsRefusal texts unfinished other → one ≡ other
 one_refusal known texts unfinished (BadLine line) (BadLine number) is also = ap (λ n. BadLine n) (same_bad texts unfinished line number is also)
 one_refusal known texts unfinished (BadLine line) (TooBig number) is also = absurd (not_bad_and_big texts unfinished line number is also)
+one_refusal known texts unfinished (BadLine line) (TooDeep number) is also = absurd (not_bad_and_deep texts unfinished line number is also)
 one_refusal known texts unfinished (BadLine line) Truncated is also = absurd (not_bad_and_cut known texts unfinished line is also)
 one_refusal known texts unfinished (TooBig line) (BadLine number) is also = absurd (not_bad_and_big texts unfinished number line also is)
 one_refusal known texts unfinished (TooBig line) (TooBig number) is also =
     ap (λ n. TooBig n) (same_line texts line number (stops_big texts line is) (stops_big texts number also))
+one_refusal known texts unfinished (TooBig line) (TooDeep number) is also = absurd (not_big_and_deep texts line number is also)
 one_refusal known texts unfinished (TooBig line) Truncated is also = absurd (not_big_and_cut texts line is also)
+one_refusal known texts unfinished (TooDeep line) (BadLine number) is also = absurd (not_bad_and_deep texts unfinished number line also is)
+one_refusal known texts unfinished (TooDeep line) (TooBig number) is also = absurd (not_big_and_deep texts number line also is)
+one_refusal known texts unfinished (TooDeep line) (TooDeep number) is also =
+    ap (λ n. TooDeep n) (same_line texts line number (stops_deep texts line is) (stops_deep texts number also))
+one_refusal known texts unfinished (TooDeep line) Truncated is also = absurd (not_deep_and_cut texts line is also)
 one_refusal known texts unfinished Truncated (BadLine number) is also = absurd (not_bad_and_cut known texts unfinished number also is)
 one_refusal known texts unfinished Truncated (TooBig number) is also = absurd (not_big_and_cut texts number also is)
+one_refusal known texts unfinished Truncated (TooDeep number) is also = absurd (not_deep_and_cut texts number also is)
 one_refusal known texts unfinished Truncated Truncated is also = refl
 one_refusal known texts unfinished OutOfMemory other is also = absurd is
 one_refusal known texts unfinished one OutOfMemory is also = absurd also
@@ -183,6 +225,7 @@ no_refusal : Known → (texts : List (List ℕ)) (unfinished : List ℕ) (whole 
 no_refusal known texts unfinished whole (BadLine line) good spelled none (inl bad) = not_all texts line (stops_bad texts line bad) (whole_begins texts whole good spelled)
 no_refusal known texts unfinished whole (BadLine line) good spelled none (inr past) = past.more none
 no_refusal known texts unfinished whole (TooBig line) good spelled none is = not_all texts line (stops_big texts line is) (whole_begins texts whole good spelled)
+no_refusal known texts unfinished whole (TooDeep line) good spelled none is = not_all texts line (stops_deep texts line is) (whole_begins texts whole good spelled)
 no_refusal known texts unfinished whole Truncated good spelled none is = not_cut known texts whole good spelled is
 no_refusal known texts unfinished whole OutOfMemory good spelled none is = is
 
@@ -207,5 +250,6 @@ pub read_again : Known → (document : Document) (answer : Result Document CertF
 read_again known document (Ok other) good is = inl (one_reading known (spelling_of document) (Ok other) (Ok document) is (good, refl))
 read_again known document (Err (BadLine line)) good is = inl (one_reading known (spelling_of document) (Err (BadLine line)) (Ok document) is (good, refl))
 read_again known document (Err (TooBig line)) good is = inl (one_reading known (spelling_of document) (Err (TooBig line)) (Ok document) is (good, refl))
+read_again known document (Err (TooDeep line)) good is = inl (one_reading known (spelling_of document) (Err (TooDeep line)) (Ok document) is (good, refl))
 read_again known document (Err Truncated) good is = inl (one_reading known (spelling_of document) (Err Truncated) (Ok document) is (good, refl))
 read_again known document (Err OutOfMemory) good is = inr refl

@@ -16,7 +16,7 @@ use Rattle.tree_certificate.specs.declared.document.Skip.TheVariants.{NoPrecurso
 use Rattle.tree_certificate.specs.declared.entry.Mark.{Mark}
 use Rattle.tree_certificate.specs.declared.entry.Mark.TheVariants.{Optimal, Gap}
 use Rattle.tree_certificate.specs.Title.{escaped, escaped_byte, hexadecimal}
-use Rattle.tree_certificate.specs.Line.{Field, a_word, a_number, a_signed, a_formula, a_mark, a_kind, a_title, some_numbers, Line, header_line, clean_line, refused_line, spectrum_line, skip_line, lists_line, list_line, formula_line, entries_line, too_large_line, tree_line, row_line, table_line, table_row_line, done_line, Spells, WritesAll, WritesField, WritesFields, WritesNumber, WritesSigned, form_of, line_text, mark_text}
+use Rattle.tree_certificate.specs.Line.{Field, a_word, a_number, a_signed, a_formula, a_mark, a_kind, a_title, some_numbers, Line, header_line, clean_line, refused_line, spectrum_line, skip_line, lists_line, list_line, formula_line, entries_line, too_large_line, tree_line, row_line, table_line, table_row_line, split_line, prices_line, potentials_line, done_line, Spells, WritesAll, WritesField, WritesFields, WritesNumber, WritesSigned, form_of, line_text, mark_text}
 use Rattle.tree_certificate.specs.Document.{AreGoodLines, text_of}
 use Rattle.tree_certificate.specs.Reading.{Spelled}
 use Rattle.tree_certificate.proofs.Cutting.{ended-some, unfinished-more}
@@ -100,7 +100,7 @@ field_plain known (a_formula counts) text good is = subst Plain (sym is.1) (visi
 field_plain known (a_mark mark) text good is = subst Plain (sym is) (mark_plain mark)
 field_plain known (a_kind number) text good is = subst Plain (sym is.2) (kind_plain is.0)
 field_plain known (a_title title) text good is = subst Plain (sym is.1) (escaped_plain title)
-field_plain known (some_numbers count most numbers) text good is = all_plain numbers text is.1
+field_plain known (some_numbers least count most numbers) text good is = all_plain numbers text is.1
 
 fields_plain : Known → (fields : List Field) (text : List ℕ) → list_all has_plain_word fields ≡ true → WritesFields fields text → Plain text
 fields_plain known [] text good is = subst Plain (sym is) refl
@@ -126,6 +126,9 @@ words_plain (tree_line candidate error score upper mark count) = refl
 words_plain (row_line it) = refl
 words_plain (table_line count) = refl
 words_plain (table_row_line items) = refl
+words_plain (split_line above colour edges) = refl
+words_plain (prices_line numbers) = refl
+words_plain (potentials_line numbers) = refl
 words_plain done_line = refl
 
 line_plain : Known → (line : Line) (text : List ℕ) → Spells line text → Plain text

@@ -1,18 +1,21 @@
 -- Where the lines of a text stop, it is refused as the documents say.
-use Rattle.std.proofs.Common.{◌≡◌, ◌≤◌, ◌+◌, ◌-◌, ◌∙◌, ℕ, List, [], ◌∷◌, ◌++◌, length, Some, None, refl, sym, ap, subst, arith}
-use Rattle.std.proofs.lemmas.Bool.{true≢false}
+use Rattle.std.proofs.Common.{◌≡◌, ◌≤◌, ◌+◌, ◌-◌, ◌∙◌, ℕ, true, List, [], ◌∷◌, ◌++◌, length, Option, Some, None, refl, sym, ap, subst, arith}
+use Rattle.std.specs.Prelude.{IsTrue}
+use Rattle.std.specs.List.{list_all}
+use Rattle.std.proofs.lemmas.Bool.{and_from, and_parts, true≢false}
 use Rattle.std.proofs.lemmas.List.{append-nil, append_assoc, length-append}
+use Rattle.std.proofs.lemmas.List.Folds.{list_all-append}
 use Rattle.std.proofs.lemmas.Option.{none-some, same_Some}
 use Rattle.tree_certificate.specs.declared.document.Document.{Document}
-use Rattle.tree_certificate.specs.Line.{Line, Spells, in_range}
-use Rattle.tree_certificate.specs.Document.{AreGoodLines, IsGood, IsGoodLine, lines_of}
-use Rattle.tree_certificate.specs.Reading.{Begins, IsAny, IsBadLine, IsPastEnd, IsTooBig, IsTruncated, Spelled}
+use Rattle.tree_certificate.specs.Line.{Line, Spells, in_range, is_shallow}
+use Rattle.tree_certificate.specs.Document.{AreGoodLines, IsGood, IsGoodLine, IsInRange, lines_of}
+use Rattle.tree_certificate.specs.Reading.{Begins, IsAny, IsBadLine, IsPastEnd, IsTooBig, IsTooDeep, IsTruncated, Reaches, Spelled}
 use Rattle.tree_certificate.specs.inside.Need.{Need, need_document, follow, line_at}
-use Rattle.tree_certificate.specs.inside.Verdict.{at_bad, at_big, at_end, verdict}
+use Rattle.tree_certificate.specs.inside.Verdict.{Stop, at_bad, at_big, at_deep, at_end, verdict}
 use Rattle.tree_certificate.proofs.FieldKinds.{Known}
-use Rattle.tree_certificate.proofs.Finishing.{finish, good_append}
+use Rattle.tree_certificate.proofs.Finishing.{all_near, finish, good_append}
 use Rattle.tree_certificate.proofs.Needs.{Leads, accepted, all_lead, all_lines, document_leads, leads_on}
-use Rattle.tree_certificate.proofs.Running.{run, same_front}
+use Rattle.tree_certificate.proofs.Running.{Run, run, same_front}
 use Rattle.tree_certificate.proofs.Shapes.{line_complete, line_sound}
 
 -- some document goes on with lines that are taken for the need of one
@@ -21,6 +24,7 @@ record Whole (front : List Line) (left : List Need) : Type 0 where
   rest : List Line
   begins : lines_of whole ≡ front ++ rest
   good : AreGoodLines front → IsGood whole
+  near : list_all in_range front ≡ true → IsInRange whole
   leads : Leads rest left []
 
 whole_of : Known → (front : List Line) (left : List Need) → Leads front (need_document ∷ []) left → Whole front left
@@ -34,6 +38,7 @@ whole_of known front left leads =
       rest = all_lines left ends.0;
       begins = begins;
       good = λ are. subst AreGoodLines (sym begins) (good_append front (all_lines left ends.0) are ends.1);
+      near = λ within. ap (list_all in_range) begins ∙ list_all-append in_range front (all_lines left ends.0) ∙ and_from _ _ within (all_near (all_lines left ends.0) ends.1);
       leads = behind;
     }
 
@@ -96,6 +101,10 @@ good_at : (front rest : List Line) (line : Line) → AreGoodLines (front ++ line
 good_at [] rest line are = are.0
 good_at (first ∷ front) rest line are = good_at front rest line are.1
 
+near_at : (front rest : List Line) (line : Line) → list_all in_range (front ++ line ∷ rest) ≡ true → in_range line ≡ true
+near_at [] rest line are = (and_parts (in_range line) (list_all in_range rest) are).0
+near_at (first ∷ front) rest line are = near_at front rest line (and_parts (in_range first) (list_all in_range (front ++ line ∷ rest)) are).1
+
 allowed_at : (left : List Need) (line : Line) (rest : List Line) → Leads (line ∷ rest) left [] → (need : Need) × (others : List Need) × (more : List Need) × (left ≡ need ∷ others) × (follow need line ≡ Some more)
 allowed_at [] line rest leads = absurd leads
 allowed_at (need ∷ others) line rest leads = (need, others, leads.0, refl, leads.1)
@@ -110,53 +119,110 @@ next_of [] left need others is leads = absurd (some_need need others (sym is ∙
     some_need need others same = (cc)
 next_of (line ∷ rest) left need others is leads = (line, rest, refl)
 
+-- the lines before the one that is refused
+reached : Known → (texts bad : List (List ℕ)) (line : ℕ) (stop : Option Stop) (it : Run (need_document ∷ []) texts stop) (text : List ℕ) (after : List (List ℕ)) → it.rest ≡ text ∷ after → bad ≡ it.rest
+    → line ≡ (length texts + 1) - length bad → Reaches texts line it.fronts text
+reached known texts bad line stop it text after rest is number =
+    let stands : texts ≡ it.fronts ++ text ∷ after = it.split ∙ ap (λ t. it.fronts ++ t) rest in
+    let all : length texts ≡ length it.fronts + length (text ∷ after) = ap length stands ∙ length-append it.fronts (text ∷ after) in
+    let left : length bad ≡ length (text ∷ after) = ap length (is ∙ rest) in
+    record { after = after; stands = stands; line_is = omega arith; good = begins_good known it.front it.fronts it.left it.leads it.good it.spelled }
+
+no_line : (need : Need) (text : List ℕ) (line : Line) → line_at need text ≡ None → line_at need text ≡ Some line → ⊥
+no_line need text line none read = none-some line (sym none ∙ read)
+
 -- a line that may not stand there
 pub bad_line : Known → (texts bad : List (List ℕ)) (line : ℕ) → verdict (need_document ∷ []) texts ≡ Some (at_bad bad) → line ≡ (length texts + 1) - length bad → IsBadLine texts line
 bad_line known texts bad line is number =
     let it = run known texts (need_document ∷ []) (Some (at_bad bad)) is in
     let text = it.ends.0 in
-    let after = it.ends.1 in
-    let stands : texts ≡ it.fronts ++ text ∷ after = it.split ∙ ap (λ t. it.fronts ++ t) it.ends.2 in
-    let all : length texts ≡ length it.fronts + length (text ∷ after) = ap length stands ∙ length-append it.fronts (text ∷ after) in
-    let left : length bad ≡ length (text ∷ after) = ap length (it.ends.3 ∙ it.ends.2) in
     record {
       before = it.fronts;
       text = text;
-      reached = record { after = after; stands = stands; line_is = omega arith; good = begins_good known it.front it.fronts it.left it.leads it.good it.spelled };
+      reached = reached known texts bad line (Some (at_bad bad)) it text it.ends.1 it.ends.2 it.ends.3 number;
       no_document = λ begins.
           let more = further known IsAny it.front it.fronts it.left text it.leads it.good it.spelled begins in
           let may = allowed_at it.left more.line more.rest more.leads in
           let read = line_complete known may.0 text more.line may.2 may.4 more.spells in
-          none-some read.line (sym (it.ends.4 may.0 may.1 may.3) ∙ read.read);
+          no_line may.0 text read.line (it.ends.4 may.0 may.1 may.3) read.read;
     }
+
+-- a document that goes on with a line that is read
+record With (front : List Line) (fronts : List (List ℕ)) (text : List ℕ) (line : Line) : Type 0 where
+  begins : Begins IsAny (fronts ++ text ∷ [])
+  near : in_range line ≡ true → Begins IsInRange (fronts ++ text ∷ [])
+
+with_line : Known → (front : List Line) (fronts : List (List ℕ)) (left others : List Need) (need : Need) (text : List ℕ) (line : Line) → Leads front (need_document ∷ []) left → AreGoodLines front → Spelled front fronts
+    → left ≡ need ∷ others → line_at need text ≡ Some line → With front fronts text line
+with_line known front fronts left others need text line leads good spelled is read =
+    let reads = line_sound known need text line read in
+    let more : List Need = reads.allowed.0 ++ others in
+    let on : Leads (front ++ reads.whole ∷ []) (need_document ∷ []) more =
+    leads_on front (reads.whole ∷ []) (need_document ∷ []) left more leads (subst (λ n. Leads (reads.whole ∷ []) n more) (sym is) (reads.allowed.0, reads.allowed.1, refl)) in
+    let some = whole_of known (front ++ reads.whole ∷ []) more on in
+    let texts = joined front fronts reads.whole text spelled reads.spelled in
+    record {
+      begins = record { whole = some.whole; which = tt; front = front ++ reads.whole ∷ []; rest = some.rest; begins = some.begins; spelled = texts };
+      near = λ within. record {
+        whole = some.whole;
+        which = some.near (list_all-append in_range front (reads.whole ∷ []) ∙ and_from _ _ (all_near front good) (and_from _ _ (sym reads.range ∙ within) refl));
+        front = front ++ reads.whole ∷ [];
+        rest = some.rest;
+        begins = some.begins;
+        spelled = texts;
+      };
+    }
+
+-- the line of a further document where one is read
+record Same (line other : Line) : Type 0 where
+  read : Line
+  range : in_range read ≡ in_range other
+  same : IsTrue (in_range read) → read ≡ other
+  is : read ≡ line
+
+same_read : Known → (Which : Document → Type 0) (left others : List Need) (need : Need) (text : List ℕ) (line : Line) → left ≡ need ∷ others → line_at need text ≡ Some line → (more : Further Which left text)
+    → Same line more.line
+same_read known Which left others need text line is told more =
+    let may = allowed_at left more.line more.rest more.leads in
+    let same : need ≡ may.0 = head_is need may.0 others may.1 (sym is ∙ may.3) in
+    let read = line_complete known may.0 text more.line may.2 may.4 more.spells in
+    record { read = read.line; range = read.range; same = read.same; is = same_Some _ _ (sym read.read ∙ ap (λ n. line_at n text) (sym same) ∙ told) }
 
 -- a line of which a number is past its range
 pub big_line : Known → (texts bad : List (List ℕ)) (line : ℕ) → verdict (need_document ∷ []) texts ≡ Some (at_big bad) → line ≡ (length texts + 1) - length bad → IsTooBig texts line
 big_line known texts bad line is number =
     let it = run known texts (need_document ∷ []) (Some (at_big bad)) is in
     let text = it.ends.0 in
-    let after = it.ends.1 in
-    let stands : texts ≡ it.fronts ++ text ∷ after = it.split ∙ ap (λ t. it.fronts ++ t) it.ends.2 in
-    let all : length texts ≡ length it.fronts + length (text ∷ after) = ap length stands ∙ length-append it.fronts (text ∷ after) in
-    let left : length bad ≡ length (text ∷ after) = ap length (it.ends.3 ∙ it.ends.2) in
     let at = it.ends.4 in
-    let reads = line_sound known at.0 text at.3.0 at.3.1 in
-    let on : Leads (it.front ++ reads.whole ∷ []) (need_document ∷ []) (reads.allowed.0 ++ at.1) =
-    leads_on it.front (reads.whole ∷ []) (need_document ∷ []) it.left (reads.allowed.0 ++ at.1) it.leads (subst (λ n. Leads (reads.whole ∷ []) n (reads.allowed.0 ++ at.1)) (sym at.2) (reads.allowed.0, reads.allowed.1, refl)) in
-    let some = whole_of known (it.front ++ reads.whole ∷ []) (reads.allowed.0 ++ at.1) on in
     record {
       before = it.fronts;
       text = text;
-      reached = record { after = after; stands = stands; line_is = omega arith; good = begins_good known it.front it.fronts it.left it.leads it.good it.spelled };
-      some_document = record { whole = some.whole; which = tt; front = it.front ++ reads.whole ∷ []; rest = some.rest; begins = some.begins; spelled = joined it.front it.fronts reads.whole text it.spelled reads.spelled };
+      reached = reached known texts bad line (Some (at_big bad)) it text it.ends.1 it.ends.2 it.ends.3 number;
+      some_document = (with_line known it.front it.fronts it.left at.1 at.0 text at.3.0 it.leads it.good it.spelled at.2 at.3.1).begins;
+      no_document_in_range = λ begins.
+          let more = further known IsInRange it.front it.fronts it.left text it.leads it.good it.spelled begins in
+          let same = same_read known IsInRange it.left at.1 at.0 text at.3.0 at.2 at.3.1 more in
+          let near : in_range more.line ≡ true = near_at more.front more.rest more.line (ap (list_all in_range) (sym more.begins) ∙ more.which) in
+          true≢false (sym (same.range ∙ near) ∙ ap in_range same.is ∙ at.3.2);
+    }
+
+-- a line above which as many splits stand as may
+pub deep_line : Known → (texts bad : List (List ℕ)) (line : ℕ) → verdict (need_document ∷ []) texts ≡ Some (at_deep bad) → line ≡ (length texts + 1) - length bad → IsTooDeep texts line
+deep_line known texts bad line is number =
+    let it = run known texts (need_document ∷ []) (Some (at_deep bad)) is in
+    let text = it.ends.0 in
+    let at = it.ends.4 in
+    record {
+      before = it.fronts;
+      text = text;
+      reached = reached known texts bad line (Some (at_deep bad)) it text it.ends.1 it.ends.2 it.ends.3 number;
+      document_in_range = (with_line known it.front it.fronts it.left at.1 at.0 text at.3.0 it.leads it.good it.spelled at.2 at.3.1).near at.3.2;
       no_good_document = λ begins.
           let more = further known IsGood it.front it.fronts it.left text it.leads it.good it.spelled begins in
-          let may = allowed_at it.left more.line more.rest more.leads in
-          let same : at.0 ≡ may.0 = head_is at.0 may.0 at.1 may.1 (sym at.2 ∙ may.3) in
-          let read = line_complete known may.0 text more.line may.2 may.4 more.spells in
-          let line_is : read.line ≡ at.3.0 = same_Some _ _ (sym read.read ∙ ap (λ n. line_at n text) (sym same) ∙ at.3.1) in
+          let same = same_read known IsGood it.left at.1 at.0 text at.3.0 at.2 at.3.1 more in
           let good = good_at more.front more.rest more.line (subst AreGoodLines more.begins more.which) in
-          true≢false (sym (read.range ∙ good.in_range) ∙ ap in_range line_is ∙ at.3.2);
+          let line_is : at.3.0 ≡ more.line = sym same.is ∙ same.same (same.range ∙ good.in_range) in
+          true≢false (sym good.shallow ∙ ap is_shallow (sym line_is) ∙ at.3.3);
     }
 
 -- the lines end where one is still needed
@@ -191,16 +257,17 @@ past_end known texts unfinished line is some number =
       more = some;
     }
 
-pub bad_within : Known → (texts bad : List (List ℕ)) → verdict (need_document ∷ []) texts ≡ Some (at_bad bad) → length bad ≤ length texts
-bad_within known texts bad is =
-    let it = run known texts (need_document ∷ []) (Some (at_bad bad)) is in
+within : (texts bad : List (List ℕ)) (stop : Option Stop) (it : Run (need_document ∷ []) texts stop) → bad ≡ it.rest → length bad ≤ length texts
+within texts bad stop it is =
     let all : length texts ≡ length (it.fronts ++ it.rest) = ap length it.split in
-    let left : length bad ≡ length it.rest = ap length it.ends.3 in
+    let left : length bad ≡ length it.rest = ap length is in
     omega (arith, length-append it.fronts it.rest)
 
+pub bad_within : Known → (texts bad : List (List ℕ)) → verdict (need_document ∷ []) texts ≡ Some (at_bad bad) → length bad ≤ length texts
+bad_within known texts bad is = let it = run known texts (need_document ∷ []) (Some (at_bad bad)) is in within texts bad (Some (at_bad bad)) it it.ends.3
+
 pub big_within : Known → (texts bad : List (List ℕ)) → verdict (need_document ∷ []) texts ≡ Some (at_big bad) → length bad ≤ length texts
-big_within known texts bad is =
-    let it = run known texts (need_document ∷ []) (Some (at_big bad)) is in
-    let all : length texts ≡ length (it.fronts ++ it.rest) = ap length it.split in
-    let left : length bad ≡ length it.rest = ap length it.ends.3 in
-    omega (arith, length-append it.fronts it.rest)
+big_within known texts bad is = let it = run known texts (need_document ∷ []) (Some (at_big bad)) is in within texts bad (Some (at_big bad)) it it.ends.3
+
+pub deep_within : Known → (texts bad : List (List ℕ)) → verdict (need_document ∷ []) texts ≡ Some (at_deep bad) → length bad ≤ length texts
+deep_within known texts bad is = let it = run known texts (need_document ∷ []) (Some (at_deep bad)) is in within texts bad (Some (at_deep bad)) it it.ends.3

@@ -1,30 +1,30 @@
 -- Lines are taken up to where they stop.
 use Rattle.std.proofs.Common.{◌≡◌, ◌∙◌, ℕ, Bool, true, false, cond, List, [], ◌∷◌, ◌++◌, Option, Some, None, refl, sym, ap, subst}
 use Rattle.std.proofs.lemmas.Option.{same_Some}
-use Rattle.tree_certificate.specs.Line.{Line, Spells, in_range, line_text}
+use Rattle.tree_certificate.specs.Line.{Line, Spells, in_range, is_shallow, line_text}
 use Rattle.tree_certificate.specs.Document.{AreGoodLines, IsGoodLine}
 use Rattle.tree_certificate.specs.Reading.{Spelled}
 use Rattle.tree_certificate.specs.inside.Need.{Need, follow, line_at}
-use Rattle.tree_certificate.specs.inside.Verdict.{Stop, at_bad, at_big, at_end, judged, next_needs, verdict}
+use Rattle.tree_certificate.specs.inside.Verdict.{Stop, at_bad, at_big, at_deep, at_end, judged, next_needs, verdict}
 use Rattle.tree_certificate.proofs.FieldKinds.{Known}
 use Rattle.tree_certificate.proofs.Needs.{Leads}
 use Rattle.tree_certificate.proofs.Shapes.{line_complete, line_sound}
 
--- a line that is read and in its ranges is good, and the text is its spelling
+-- a line that is read, in its ranges and shallow is good, and the text is its spelling
 pub record IsTaken (need : Need) (text : List ℕ) (line : Line) : Type 0 where
   pub text_is : text ≡ line_text line
   pub good : IsGoodLine line
   pub spelled : Spells line text
   pub allowed : (more : List Need) × (follow need line ≡ Some more)
 
-pub taken : Known → (need : Need) (text : List ℕ) (line : Line) → line_at need text ≡ Some line → in_range line ≡ true → IsTaken need text line
-taken known need text line read near =
+pub taken : Known → (need : Need) (text : List ℕ) (line : Line) → line_at need text ≡ Some line → in_range line ≡ true → is_shallow line ≡ true → IsTaken need text line
+taken known need text line read near shallow =
     let reads = line_sound known need text line read in
     let same : line ≡ reads.whole = reads.same near in
     let spelled : Spells line text = subst (λ l. Spells l text) (sym same) reads.spelled in
     record {
       text_is = reads.text_is near;
-      good = record { in_range = near; spelled = subst (λ t. Spells line t) (reads.text_is near) spelled };
+      good = record { in_range = near; shallow = shallow; spelled = subst (λ t. Spells line t) (reads.text_is near) spelled };
       spelled = spelled;
       allowed = (reads.allowed.0, ap (follow need) same ∙ reads.allowed.1);
     }
@@ -37,6 +37,8 @@ Ends (Some (at_bad bad)) left rest = (text : List ℕ) × (after : List (List �
     × ((need : Need) (others : List Need) → left ≡ need ∷ others → line_at need text ≡ None)
 Ends (Some (at_big bad)) left rest = (text : List ℕ) × (after : List (List ℕ)) × (rest ≡ text ∷ after) × (bad ≡ rest)
     × ((need : Need) × (others : List Need) × (left ≡ need ∷ others) × ((line : Line) × (line_at need text ≡ Some line) × (in_range line ≡ false)))
+Ends (Some (at_deep bad)) left rest = (text : List ℕ) × (after : List (List ℕ)) × (rest ≡ text ∷ after) × (bad ≡ rest)
+    × ((need : Need) × (others : List Need) × (left ≡ need ∷ others) × ((line : Line) × (line_at need text ≡ Some line) × (in_range line ≡ true) × (is_shallow line ≡ false)))
 
 -- the lines that are taken, and what is left
 pub record Run (needs : List Need) (texts : List (List ℕ)) (stop : Option Stop) : Type 0 where
@@ -77,12 +79,19 @@ run known [] (need ∷ needs) stop is = subst (Run (need ∷ needs) []) is (stop
 run known (text ∷ texts) [] stop is = subst (Run [] (text ∷ texts)) is (stopped [] (text ∷ texts) (Some (at_bad (text ∷ texts))) (text, texts, refl, refl, λ need others none. (cc)))
 run known (text ∷ texts) (need ∷ needs) stop is = step (line_at need text) refl (λ more told. run known texts (more ++ needs) stop told) is
   where
-    in_range_or : (line : Line) (b : Bool) → line_at need text ≡ Some line → in_range line ≡ b → ((more : List Need) → verdict (more ++ needs) texts ≡ stop → Run (more ++ needs) texts stop)
-        → cond b (verdict (next_needs (follow need line) ++ needs) texts) (Some (at_big (text ∷ texts))) ≡ stop → Run (need ∷ needs) (text ∷ texts) stop
-    in_range_or line false read near later told = subst (Run (need ∷ needs) (text ∷ texts)) told (stopped (need ∷ needs) (text ∷ texts) (Some (at_big (text ∷ texts))) (text, texts, refl, refl, (need, needs, refl, (line, read, near))))
-    in_range_or line true read near later told =
-        let is = taken known need text line read near in
+    shallow_or : (line : Line) (b : Bool) → line_at need text ≡ Some line → in_range line ≡ true → is_shallow line ≡ b
+        → ((more : List Need) → verdict (more ++ needs) texts ≡ stop → Run (more ++ needs) texts stop)
+        → cond b (verdict (next_needs (follow need line) ++ needs) texts) (Some (at_deep (text ∷ texts))) ≡ stop → Run (need ∷ needs) (text ∷ texts) stop
+    shallow_or line false read near deep later told =
+        subst (Run (need ∷ needs) (text ∷ texts)) told (stopped (need ∷ needs) (text ∷ texts) (Some (at_deep (text ∷ texts))) (text, texts, refl, refl, (need, needs, refl, (line, read, near, deep))))
+    shallow_or line true read near shallow later told =
+        let is = taken known need text line read near shallow in
         one_more need needs is.allowed.0 text texts line stop is is.allowed.1 (later is.allowed.0 (ap (λ more. verdict (next_needs more ++ needs) texts) (sym is.allowed.1) ∙ told))
+
+    in_range_or : (line : Line) (b : Bool) → line_at need text ≡ Some line → in_range line ≡ b → ((more : List Need) → verdict (more ++ needs) texts ≡ stop → Run (more ++ needs) texts stop)
+        → cond b (cond (is_shallow line) (verdict (next_needs (follow need line) ++ needs) texts) (Some (at_deep (text ∷ texts)))) (Some (at_big (text ∷ texts))) ≡ stop → Run (need ∷ needs) (text ∷ texts) stop
+    in_range_or line false read near later told = subst (Run (need ∷ needs) (text ∷ texts)) told (stopped (need ∷ needs) (text ∷ texts) (Some (at_big (text ∷ texts))) (text, texts, refl, refl, (need, needs, refl, (line, read, near))))
+    in_range_or line true read near later told = shallow_or line (is_shallow line) read near refl later told
 
     step : (o : Option Line) → line_at need text ≡ o → ((more : List Need) → verdict (more ++ needs) texts ≡ stop → Run (more ++ needs) texts stop)
         → judged (text ∷ texts) o (λ line. verdict (next_needs (follow need line) ++ needs) texts) ≡ stop → Run (need ∷ needs) (text ∷ texts) stop

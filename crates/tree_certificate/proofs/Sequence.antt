@@ -7,7 +7,7 @@ use Rattle.std.proofs.lemmas.List.Folds.{list_all-append}
 use Rattle.std.proofs.lemmas.List.{append-nil, append_assoc, length-append, map-append}
 use Rattle.mgf_reader.specs.Text.{ended_lines}
 use Rattle.tree_certificate.specs.declared.stop.Stop as code
-use Rattle.tree_certificate.specs.declared.stop.Stop.TheVariants.{Bad, Big, End, OutOfMemory}
+use Rattle.tree_certificate.specs.declared.stop.Stop.TheVariants.{Bad, Big, Deep, End, OutOfMemory}
 use Rattle.tree_certificate.specs.Line.{Line, line_text}
 use Rattle.tree_certificate.specs.Document.{text_of}
 use Rattle.tree_certificate.specs.inside.Need.{Need}
@@ -35,6 +35,7 @@ then_took needs now left more lines news bytes rest later first next = record {
 pub then_stops : (needs now left : List Need) (lines : List Line) (bytes rest : List ℕ) (stop : code.Stop) → Took needs (now ++ left) lines bytes rest → StopsAs now rest stop → StopsAs needs bytes stop
 then_stops needs now left lines bytes rest (Bad at) first next = λ others. first.same others ∙ ap (λ n. verdict n (ended_lines rest)) (append_assoc now left others) ∙ next (left ++ others)
 then_stops needs now left lines bytes rest (Big at) first next = λ others. first.same others ∙ ap (λ n. verdict n (ended_lines rest)) (append_assoc now left others) ∙ next (left ++ others)
+then_stops needs now left lines bytes rest (Deep at) first next = λ others. first.same others ∙ ap (λ n. verdict n (ended_lines rest)) (append_assoc now left others) ∙ next (left ++ others)
 then_stops needs now left lines bytes rest End first next = λ others. first.same others ∙ ap (λ n. verdict n (ended_lines rest)) (append_assoc now left others) ∙ next (left ++ others)
 then_stops needs now left lines bytes rest OutOfMemory first next = tt
 

@@ -1,18 +1,19 @@
 -- Every line is read as it is written, where it may stand.
-use Rattle.std.proofs.Common.{◌≡◌, ◌∙◌, ℕ, ℤ, Bool, true, false, cond, List, [], ◌∷◌, ◌++◌, length, take, drop, Option, Some, None, eqb, refl, sym, ap, subst}
+use Rattle.std.proofs.Common.{◌≡◌, ◌+◌, ◌∙◌, ℕ, ℤ, Bool, true, false, cond, List, [], ◌∷◌, ◌++◌, length, take, drop, Option, Some, None, eqb, refl, sym, ap, subst}
 use Rattle.std.specs.Prelude.{IsTrue, codes}
 use Rattle.std.specs.List.{flat_map, list_all, starts_with}
 use Rattle.std.specs.Option.{option_and_then, option_map}
 use Rattle.std.specs.Str.{bytes_eq}
+use Rattle.std.proofs.lemmas.Bool.{eq-eqb, eqb-true}
 use Rattle.std.proofs.lemmas.List.{take_at, drop_at, take-append-drop}
 use Rattle.std.proofs.lemmas.Option.{none-some, same_Some}
 use Rattle.std.proofs.lemmas.Slice.Eq.{bytes_eq-Decides}
 use Rattle.tree_certificate.specs.declared.document.Skip.{Skip}
 use Rattle.tree_certificate.specs.declared.document.Skip.TheVariants.{NoPrecursor, Charge, Range, TooMany}
-use Rattle.tree_certificate.specs.Line.{Field, a_word, a_number, a_kind, greatest_line_number, greatest_peak_number, greatest_rows, LineShape, form, form_of, Line, header_line, clean_line, refused_line, spectrum_line, skip_line, lists_line, list_line, formula_line, entries_line, too_large_line, tree_line, row_line, table_line, table_row_line, done_line, Spells, WritesFields, field_text, in_range, is_field_in_range, line_text}
+use Rattle.tree_certificate.specs.Line.{Field, a_word, a_number, a_kind, greatest_line_number, greatest_peak_number, greatest_rows, LineShape, form, form_of, Line, header_line, clean_line, refused_line, spectrum_line, skip_line, lists_line, list_line, formula_line, entries_line, too_large_line, tree_line, row_line, table_line, table_row_line, split_line, prices_line, potentials_line, done_line, Spells, WritesFields, field_text, in_range, is_field_in_range, line_text}
 use Rattle.tree_certificate.specs.Number.{greatest_number}
 use Rattle.tree_certificate.specs.inside.Field.{Kind, word_kind, number_kind, signed_kind, formula_kind, mark_kind, Of, Tail, no_tail, Values, behind_word, field_of, fields_of, signed_in, token_at, value_at, value_in, values_at}
-use Rattle.tree_certificate.specs.inside.Need.{Need, need_document, need_sections, need_body, need_list, need_formula, need_entries, need_entry, need_row, need_cert, need_table_row, need_done, Shape, first_line, follow, line_at, line_with, or_else, shapes_of, header_shape, clean_shape, refused_shape, spectrum_shape, no_precursor_shape, charge_shape, range_shape, too_many_shape, lists_shape, list_shape, formula_shape, entries_shape, too_large_shape, tree_shape, row_shape, table_shape, table_row_shape, done_shape}
+use Rattle.tree_certificate.specs.inside.Need.{Need, need_document, need_sections, need_body, need_list, need_formula, need_entries, need_entry, need_row, need_cert, need_table_row, need_bound, need_potentials, need_done, Shape, first_line, follow, line_at, line_with, or_else, shapes_of, header_shape, clean_shape, refused_shape, spectrum_shape, no_precursor_shape, charge_shape, range_shape, too_many_shape, lists_shape, list_shape, formula_shape, entries_shape, too_large_shape, tree_shape, row_shape, table_shape, table_row_shape, split_shape, prices_shape, potentials_shape, done_shape}
 use Rattle.tree_certificate.proofs.FieldKinds.{IsToken, Known, is_good_kind, to_token, token_no_space}
 use Rattle.tree_certificate.proofs.FieldValues.{Reads, are_good, are_in_range, capped_values, complete, fields_rest, ranges_kept, sound, value_complete, values_kept, values_text}
 use Rattle.tree_certificate.proofs.Tokens.{token_at-front}
@@ -110,6 +111,10 @@ a_shape : (need : Need) (shape : Shape) → are_good shape.kinds shape.tail ≡ 
     → ((values : Values shape.kinds shape.tail) → (more : List Need) × (follow need (shape.make values) ≡ Some more)) → IsShape need shape
 a_shape need shape good form allowed = record { good = good; form = form; allowed = allowed }
 
+pub split_follows : (above under : ℕ) → above ≡ under → (colour : ℕ) (edges : List ℕ)
+    → follow (need_bound under) (split_line above colour edges) ≡ Some (need_bound (under + 1) ∷ need_bound (under + 1) ∷ [])
+split_follows above under same colour edges = ap (λ b. cond b (Some (need_bound (under + 1) ∷ need_bound (under + 1) ∷ [])) None) (eq-eqb above under same)
+
 are_shapes : (need : Need) → AreShapes need (shapes_of need)
 are_shapes need_document = (a_shape need_document header_shape refl (λ v. refl) (λ v. (_, refl)), tt)
 are_shapes need_sections = (a_shape need_sections spectrum_shape refl (λ v. refl) (λ v. (_, refl)), (a_shape need_sections clean_shape refl (λ v. refl) (λ v. (_, refl)), (a_shape need_sections refused_shape refl (λ v. refl) (λ v. (_, refl)), tt)))
@@ -128,8 +133,19 @@ are_shapes need_formula = (a_shape need_formula formula_shape refl (λ v. refl) 
 are_shapes need_entries = (a_shape need_entries entries_shape refl (λ v. refl) (λ v. (_, refl)), tt)
 are_shapes need_entry = (a_shape need_entry tree_shape refl (λ v. refl) (λ v. (_, refl)), (a_shape need_entry too_large_shape refl (λ v. refl) (λ v. (_, refl)), tt))
 are_shapes need_row = (a_shape need_row row_shape refl (λ v. refl) (λ v. (_, refl)), tt)
-are_shapes need_cert = (a_shape need_cert table_shape refl (λ v. refl) (λ v. (_, refl)), tt)
+are_shapes need_cert = (
+  a_shape need_cert table_shape refl (λ v. refl) (λ v. (_, refl)),
+  (a_shape need_cert prices_shape refl (λ v. refl) (λ v. (_, refl)), (a_shape need_cert (split_shape 0) refl (λ v. refl) (λ v. (_, refl)), tt)),
+)
 are_shapes need_table_row = (a_shape need_table_row table_row_shape refl (λ v. refl) (λ v. (_, refl)), tt)
+are_shapes (need_bound under) = (
+  a_shape (need_bound under) prices_shape refl (λ v. refl) (λ v. (_, refl)),
+  (
+    a_shape (need_bound under) (split_shape under) refl (λ v. refl) (λ v. (need_bound (under + 1) ∷ need_bound (under + 1) ∷ [], split_follows under under refl v.0 v.1)),
+    tt,
+  ),
+)
+are_shapes need_potentials = (a_shape need_potentials potentials_shape refl (λ v. refl) (λ v. (_, refl)), tt)
 are_shapes need_done = (a_shape need_done done_shape refl (λ v. refl) (λ v. (_, refl)), tt)
 
 -- what is read where something is needed is a line that may stand there
@@ -251,6 +267,33 @@ section_read known text (refused_line line kind) more may is =
     ∙ ap (λ o. or_else o (first_line (refused_shape ∷ []) text)) other ∙ ap (λ o. or_else o (first_line [] text)) read)
 section_read known text whole more may is = absurd (none-some more may)
 
+prices_read : Known → (text : List ℕ) (numbers : List ℤ) → Spells (prices_line numbers) text → IsRead need_cert text (prices_line numbers)
+prices_read known text numbers is =
+    let none : line_with table_shape text ≡ None = ap (line_with table_shape) is.1 in
+    by_shape known need_cert prices_shape (are_shapes need_cert).1.0 numbers text is (λ it read. ap (λ o. or_else o (first_line (prices_shape ∷ split_shape 0 ∷ []) text)) none
+    ∙ ap (λ o. or_else o (first_line (split_shape 0 ∷ []) text)) read)
+
+-- the line of a split is read under as many splits as are told
+split_read : Known → (text : List ℕ) (above colour : ℕ) (edges : List ℕ) (b : Bool) (more : List Need) → eqb above 0 ≡ b
+    → cond b (Some (need_bound 1 ∷ need_bound 1 ∷ [])) None ≡ Some more → Spells (split_line above colour edges) text → IsRead need_cert text (split_line above colour edges)
+split_read known text above colour edges false more told may is = absurd (none-some more may)
+split_read known text above colour edges true more told may is =
+    let none : line_with table_shape text ≡ None = ap (line_with table_shape) is.1 in
+    let other : line_with prices_shape text ≡ None = ap (line_with prices_shape) is.1 in
+    subst (λ n. IsRead need_cert text (split_line n colour edges)) (sym (eqb-true above 0 told))
+    (by_shape known need_cert (split_shape 0) (are_shapes need_cert).1.1.0 (colour, edges) text is (λ it read. ap (λ o. or_else o (first_line (prices_shape ∷ split_shape 0 ∷ []) text)) none
+    ∙ ap (λ o. or_else o (first_line (split_shape 0 ∷ []) text)) other ∙ ap (λ o. or_else o (first_line [] text)) read))
+
+bound_split_read : Known → (text : List ℕ) (under above colour : ℕ) (edges : List ℕ) (b : Bool) (more : List Need) → eqb above under ≡ b
+    → cond b (Some (need_bound (under + 1) ∷ need_bound (under + 1) ∷ [])) None ≡ Some more → Spells (split_line above colour edges) text
+    → IsRead (need_bound under) text (split_line above colour edges)
+bound_split_read known text under above colour edges false more told may is = absurd (none-some more may)
+bound_split_read known text under above colour edges true more told may is =
+    let other : line_with prices_shape text ≡ None = ap (line_with prices_shape) is.1 in
+    subst (λ n. IsRead (need_bound under) text (split_line n colour edges)) (sym (eqb-true above under told))
+    (by_shape known (need_bound under) (split_shape under) (are_shapes (need_bound under)).1.0 (colour, edges) text is (λ it read. ap (λ o. or_else o (first_line (split_shape under ∷ []) text)) other
+    ∙ ap (λ o. or_else o (first_line [] text)) read))
+
 pub line_complete : Known → (need : Need) (text : List ℕ) (whole : Line) (more : List Need) → follow need whole ≡ Some more → Spells whole text → IsRead need text whole
 line_complete known need_document text header_line more may is = single known need_document header_shape (are_shapes need_document).0 (tt, tt) text is refl
 line_complete known need_sections text whole more may is = section_read known text whole more may is
@@ -266,7 +309,14 @@ line_complete known need_entry text (too_large_line candidate error vertices) mo
     by_shape known need_entry too_large_shape (are_shapes need_entry).1.0 (candidate, (error, (tt, (vertices, tt)))) text is
     (λ it read. ap (λ o. or_else o (first_line (too_large_shape ∷ []) text)) (tree_fails known candidate error vertices text is) ∙ ap (λ o. or_else o (first_line [] text)) read)
 line_complete known need_row text (row_line it) more may is = single known need_row row_shape (are_shapes need_row).0 (it.edge, (it.parent, (it.peak, (it.formula, (it.loss, (it.weight, tt)))))) text is refl
-line_complete known need_cert text (table_line count) more may is = single known need_cert table_shape (are_shapes need_cert).0 (count, tt) text is refl
+line_complete known need_cert text (table_line count) more may is =
+    by_shape known need_cert table_shape (are_shapes need_cert).0 (count, tt) text is (λ it read. ap (λ o. or_else o (first_line (prices_shape ∷ split_shape 0 ∷ []) text)) read)
+line_complete known need_cert text (prices_line numbers) more may is = prices_read known text numbers is
+line_complete known need_cert text (split_line above colour edges) more may is = split_read known text above colour edges (eqb above 0) more refl may is
+line_complete known (need_bound under) text (prices_line numbers) more may is =
+    by_shape known (need_bound under) prices_shape (are_shapes (need_bound under)).0 numbers text is (λ it read. ap (λ o. or_else o (first_line (split_shape under ∷ []) text)) read)
+line_complete known (need_bound under) text (split_line above colour edges) more may is = bound_split_read known text under above colour edges (eqb above under) more refl may is
+line_complete known need_potentials text (potentials_line numbers) more may is = single known need_potentials potentials_shape (are_shapes need_potentials).0 numbers text is refl
 line_complete known need_table_row text (table_row_line items) more may is = single known need_table_row table_row_shape (are_shapes need_table_row).0 items text is refl
 line_complete known need_done text done_line more may is = single known need_done done_shape (are_shapes need_done).0 tt text is refl
 line_complete known need text whole more may is = absurd (none-some more may)

@@ -7,10 +7,8 @@ use Rattle.colour_graph.specs.declared.edge.Edge.{Edge}
 use Rattle.colour_graph.specs.Bounded.{IsBounded}
 use Rattle.colour_graph.specs.EdgeSet.{all_edges}
 use Rattle.colour_graph.specs.Graph.{Graph, IsEdge, IsGraph, colour_count, colour_of, edge_at}
-use Rattle.tree_certificate.specs.CertHolds.{CertHolds}
 use Rattle.tree_certificate.specs.ColourSet.{IsPartOf, place_of, without}
 use Rattle.tree_certificate.specs.TableHolds.{IsHighEnough, TableHolds, number_at, number_of, place_in, row_length}
-use Rattle.tree_certificate.specs.Value.{CertValue, a_table}
 use Rattle.tree_certificate.proofs.Bounding.{Bounds, colour-le_count}
 use Rattle.tree_certificate.proofs.Trees.{IsOpenEdge, bounded_by}
 
@@ -97,6 +95,3 @@ Bounds-table graph rows upper is holds = record { empty = empty; grows = grows; 
 
 pub table_bounds : (graph : Graph) (rows : List (List ℤ)) (upper : ℤ) → IsGraph graph → TableHolds graph rows upper → IsBounded graph (all_edges graph) upper
 table_bounds graph rows upper is holds = bounded_by graph (all_edges graph) (number_of graph rows) upper is (Bounds-table graph rows upper is holds) holds.total
-
-pub cert_bounds : (graph : Graph) (cert : CertValue) (upper : ℤ) → IsGraph graph → CertHolds graph cert upper → IsBounded graph (all_edges graph) upper
-cert_bounds graph (a_table rows) upper is holds = table_bounds graph rows upper is holds

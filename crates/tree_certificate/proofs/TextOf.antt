@@ -1,8 +1,9 @@
 -- The text of lines that are made of items.
-use Rattle.std.proofs.Common.{◌≡◌, ◌∙◌, ◌++◌, ℕ, ℤ, List, [], ◌∷◌, length, map, refl, sym, ap}
-use Rattle.std.specs.Prelude.{codes}
+use Rattle.std.proofs.Common.{◌≡◌, ◌∙◌, ◌++◌, ℕ, ℤ, pos, List, [], ◌∷◌, length, map, refl, sym, ap}
+use Rattle.std.specs.Prelude.{codes, decimal}
+use Rattle.std.specs.Fmt.{signed_decimal}
 use Rattle.std.specs.List.{flat_map}
-use Rattle.std.proofs.lemmas.List.{append_assoc, length-map}
+use Rattle.std.proofs.lemmas.List.{append-nil, append_assoc, length-map}
 use Rattle.tree_certificate.specs.Line.{Line, table_line, table_row_line, line_text}
 use Rattle.tree_certificate.specs.Document.{cert_lines, text_of}
 use Rattle.tree_certificate.specs.Value.{a_table}
@@ -41,3 +42,19 @@ head_items_and_last old head middle all line f items last head_is middle_is all_
 pub table_lines : {X : Type 0} (numbers : X → List ℤ) (rows : List X)
     → table_line (length rows) ∷ map (λ row. table_row_line (numbers row)) rows ≡ cert_lines (a_table (map numbers rows))
 table_lines numbers rows = λ i. table_line (sym (length-map rows numbers) i) ∷ sym (map_of_map table_row_line numbers rows) i
+
+-- a line, and two groups of lines behind it
+pub head_and_two : (old head middle all : List ℕ) (line : Line) (first second : List Line)
+    → head ≡ old ++ text_of (line ∷ []) → middle ≡ head ++ text_of first → all ≡ middle ++ text_of second → all ≡ old ++ text_of (line ∷ (first ++ second))
+head_and_two old head middle all line first second head_is middle_is all_is =
+    all_is ∙ ap (λ t. t ++ text_of second) (middle_is ∙ ap (λ t. t ++ text_of first) head_is)
+    ∙ regroup old (line_text line ++ codes "\n") (text_of first) (text_of second)
+    ∙ ap (λ t. old ++ ((line_text line ++ codes "\n") ++ t)) (sym (text_of-append first second))
+  where
+    regroup : (a b c d : List ℕ) → ((a ++ (b ++ [])) ++ c) ++ d ≡ a ++ (b ++ (c ++ d))
+    regroup a b c d = simp (append_assoc, append-nil)
+
+-- natural numbers, as they stand in a list of signed ones
+pub natural_texts : (numbers : List ℕ) → flat_map (λ number. codes " " ++ signed_decimal number) (map (λ number. pos number) numbers) ≡ flat_map (λ number. codes " " ++ decimal number) numbers
+natural_texts [] = refl
+natural_texts (number ∷ numbers) = ap (λ t. (codes " " ++ decimal number) ++ t) (natural_texts numbers)

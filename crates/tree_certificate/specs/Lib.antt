@@ -6,5 +6,10 @@ pub mod Document
 pub mod Reading
 pub mod ColourSet
 pub mod TableHolds
+pub mod BoundValue
+pub mod PriceHolds
+pub mod BoundView
+pub mod BoundHolds
 pub mod CertHolds
+pub mod Spent
 pub mod inside

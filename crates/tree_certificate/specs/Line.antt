@@ -1,6 +1,6 @@
 -- The lines of a document: one table of their forms, and what follows from it. A line is a value here, and its numbers
 -- have any size.
-use Rattle.std.specs.Prelude.{◌≡◌, ◌≤◌, ◌++◌, ◌==◌, ℕ, ℤ, pos, negsuc, suc, Bool, true, false, not, ◌&&◌, nat_le, IsTrue, List, [], ◌∷◌, length, codes, decimal, Option, Some, None}
+use Rattle.std.specs.Prelude.{◌≡◌, ◌≤◌, ◌++◌, ◌==◌, ℕ, ℤ, pos, negsuc, suc, Bool, true, false, not, ◌&&◌, nat_le, nat_lt, IsTrue, List, [], ◌∷◌, length, map, codes, decimal, Option, Some, None}
 use Rattle.std.specs.Char.{is_ascii_digit}
 use Rattle.std.specs.Fmt.{signed_decimal}
 use Rattle.std.specs.List.{flat_map, list_all}
@@ -33,6 +33,10 @@ pub data Line : Type 0 where
   row_line : TreeRow → Line
   table_line : ℕ → Line
   table_row_line : List ℤ → Line
+  -- under so many splits, which is not spelled: a colour and edges into it
+  split_line : ℕ → ℕ → List ℕ → Line
+  prices_line : List ℤ → Line
+  potentials_line : List ℤ → Line
   done_line : Line
 
 -- a field of a line: its kind, the least and the greatest number that it may have, and what it holds
@@ -44,8 +48,8 @@ pub data Field : Type 0 where
   a_mark : Mark → Field
   a_kind : ℕ → Field
   a_title : List ℕ → Field
-  -- all the rest of the line: at most so many numbers, each at most so far from 0
-  some_numbers : ℕ → ℕ → List ℤ → Field
+  -- all the rest of the line: at least and at most so many numbers, each at most so far from 0
+  some_numbers : ℕ → ℕ → ℕ → List ℤ → Field
 
 -- a line: a first word, and the fields behind it
 pub record LineShape : Type 0 where
@@ -63,8 +67,8 @@ greatest_line_number = 4294967295
 abbrev pub greatest_peak_number : ℕ
 greatest_peak_number = 1000000000000000000
 
--- vertices of a graph that is solved, and so rows of its table; an entry's rows and the numbers of its lists are no
--- more
+-- vertices of a graph that is solved, and so rows of its table and its potentials; an entry's rows, the numbers of its
+-- lists, and its colours with their prices are no more
 abbrev pub greatest_rows : ℕ
 greatest_rows = 512
 
@@ -98,7 +102,11 @@ form_of (row_line it) = form (codes "r")
     (a_number 0 131071 it.edge ∷ a_number 0 greatest_rows it.parent ∷ a_number 0 greatest_rows it.peak
     ∷ a_formula it.formula ∷ a_formula it.loss ∷ a_signed 100000 it.weight ∷ [])
 form_of (table_line count) = form (codes "table") (a_number 0 greatest_rows count ∷ [])
-form_of (table_row_line items) = form (codes "t") (some_numbers 4096 greatest_number items ∷ [])
+form_of (table_row_line items) = form (codes "t") (some_numbers 1 4096 greatest_number items ∷ [])
+form_of (split_line above colour edges) = form (codes "split")
+    (a_number 0 greatest_rows colour ∷ some_numbers 1 131072 131071 (map (λ edge. pos edge) edges) ∷ [])
+form_of (prices_line numbers) = form (codes "prices") (some_numbers 0 greatest_rows greatest_number numbers ∷ [])
+form_of (potentials_line numbers) = form (codes "potentials") (some_numbers 1 greatest_rows greatest_number numbers ∷ [])
 form_of done_line = form (codes "done") []
 
 abbrev pub mark_text : Mark → List ℕ
@@ -119,7 +127,7 @@ field_text (a_formula counts) = codes " " ++ formula_text counts
 field_text (a_mark mark) = codes " " ++ mark_text mark
 field_text (a_kind number) = codes " " ++ word_of (kind_of_number number)
 field_text (a_title title) = codes " " ++ escaped title
-field_text (some_numbers count most numbers) = flat_map (λ number. codes " " ++ signed_decimal number) numbers
+field_text (some_numbers least count most numbers) = flat_map (λ number. codes " " ++ signed_decimal number) numbers
 
 -- the one spelling of a line whose numbers are in their ranges
 abbrev pub line_text : Line → List ℕ
@@ -129,12 +137,21 @@ line_text line = (form_of line).word ++ flat_map field_text (form_of line).field
 abbrev pub is_field_in_range : Field → Bool
 is_field_in_range (a_number least most number) = nat_le least number && nat_le number most
 is_field_in_range (a_signed most number) = is_near most number
-is_field_in_range (some_numbers count most numbers) = nat_le (length numbers) count && list_all (is_near most) numbers
+is_field_in_range (some_numbers least count most numbers) = nat_le (length numbers) count && list_all (is_near most) numbers
 is_field_in_range field = true
 
 -- whether all numbers and counts of a line are in their ranges
 abbrev pub in_range : Line → Bool
 in_range line = list_all is_field_in_range (form_of line).fields
+
+-- A certificate has at most so many splits above its prices.
+abbrev pub greatest_depth : ℕ
+greatest_depth = 1024
+
+-- whether fewer splits stand above a line than may
+abbrev pub is_shallow : Line → Bool
+is_shallow (split_line above colour edges) = nat_lt above greatest_depth
+is_shallow line = true
 
 -- the digits of a number: one digit, or digits of which the first is no nought
 abbrev pub is_number : List ℕ → Bool
@@ -167,7 +184,7 @@ WritesField (a_formula counts) text = IsFormula counts × (text ≡ 32 ∷ formu
 WritesField (a_mark mark) text = text ≡ 32 ∷ mark_text mark
 WritesField (a_kind number) text = (kind : MgfKind) × (kind_of_number number ≡ Some kind) × (text ≡ 32 ∷ kind_text kind)
 WritesField (a_title title) text = IsTrue (are_bytes title) × (text ≡ 32 ∷ escaped title)
-WritesField (some_numbers count most numbers) text = (1 ≤ length numbers) × WritesAll numbers text
+WritesField (some_numbers least count most numbers) text = (least ≤ length numbers) × WritesAll numbers text
 
 abbrev pub WritesFields : List Field → List ℕ → Type 0
 WritesFields [] text = text ≡ []

@@ -13,3 +13,7 @@ is_near most z = nat_le (unsigned_abs z) most
 -- the rows of a table, each of them a list of numbers that a certificate may hold
 abbrev pub AreNumbers : List (List ℤ) → Type 0
 AreNumbers rows = IsTrue (list_all (λ row. list_all (is_near greatest_number) row) rows)
+
+-- a list of numbers that a certificate may hold
+abbrev pub AreNear : List ℤ → Type 0
+AreNear numbers = IsTrue (list_all (is_near greatest_number) numbers)

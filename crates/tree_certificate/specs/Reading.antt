@@ -4,8 +4,8 @@ use Rattle.std.specs.Prelude.{◌≡◌, ◌≢◌, ◌+◌, ◌++◌, ◌⊎◌
 use Rattle.mgf_reader.specs.Text.{ended_lines, unfinished_line}
 use Rattle.tree_certificate.specs.declared.document.Document.{Document}
 use Rattle.tree_certificate.specs.declared.fault.CertFault.{CertFault}
-use Rattle.tree_certificate.specs.declared.fault.CertFault.TheVariants.{BadLine, TooBig, Truncated, OutOfMemory}
-use Rattle.tree_certificate.specs.Document.{IsGood, lines_of, spelling_of}
+use Rattle.tree_certificate.specs.declared.fault.CertFault.TheVariants.{BadLine, TooBig, TooDeep, Truncated, OutOfMemory}
+use Rattle.tree_certificate.specs.Document.{IsGood, IsInRange, lines_of, spelling_of}
 use Rattle.tree_certificate.specs.Line.{Line, Spells}
 
 -- texts that are spellings of lines, one each
@@ -55,6 +55,15 @@ pub record IsTooBig (texts : List (List ℕ)) (line : ℕ) : Type 0 where
   pub text : List ℕ
   pub reached : Reaches texts line before text
   pub some_document : Begins IsAny (before ++ text ∷ [])
+  pub no_document_in_range : ¬ Begins IsInRange (before ++ text ∷ [])
+
+-- The line of this number is refused since a document has it there with all numbers in their ranges, but none with so
+-- few splits above each line as may stand there.
+pub record IsTooDeep (texts : List (List ℕ)) (line : ℕ) : Type 0 where
+  pub before : List (List ℕ)
+  pub text : List ℕ
+  pub reached : Reaches texts line before text
+  pub document_in_range : Begins IsInRange (before ++ text ∷ [])
   pub no_good_document : ¬ Begins IsGood (before ++ text ∷ [])
 
 -- All whole lines begin a good document that has a further line.
@@ -71,6 +80,7 @@ pub record IsTruncated (texts : List (List ℕ)) : Type 0 where
 abbrev pub IsRefusal : List (List ℕ) → List ℕ → CertFault → Type 0
 IsRefusal texts unfinished (BadLine line) = IsBadLine texts line ⊎ IsPastEnd texts unfinished line
 IsRefusal texts unfinished (TooBig line) = IsTooBig texts line
+IsRefusal texts unfinished (TooDeep line) = IsTooDeep texts line
 IsRefusal texts unfinished Truncated = IsTruncated texts
 IsRefusal texts unfinished OutOfMemory = ⊥
 

@@ -1,3 +1,4 @@
+pub mod BoundCode
 pub mod Cut
 pub mod Field
 pub mod Need

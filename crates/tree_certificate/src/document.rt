@@ -82,9 +82,13 @@ pub struct Sections {
 
 impl Model for Sections {
     ghost use Rattle.std.specs.Prelude.{List};
+    ghost use Rattle.std.specs.Coded.{codes};
     ghost use Rattle.tree_certificate.specs.declared.document.Section.{Section};
+    ghost use Rattle.tree_certificate.specs.inside.BoundCode.{bound_code};
 
     ghost Value = { List Section };
+
+    ghost coded = { Prim.hlevel (codes, bound_code) };
 
     ghost view = { λ sections. sections.items.items };
 }

@@ -1,6 +1,7 @@
 //! What a section says of one candidate: its tree with a certificate, or that its graph is too large.
 ghost use Rattle.std.specs.Prelude.{◌≡◌};
 
+use crate::bound::Bound;
 use crate::table::TableCert;
 use element_table::Formula;
 use std::marker::Model;
@@ -62,6 +63,8 @@ impl TreeRows {
 pub enum Cert {
     /// A number for each vertex and each set of colours.
     Table(TableCert),
+    /// Prices and potentials, or splits whose ends are such.
+    Bounds(Bound),
 }
 
 /// A tree with its score, an upper bound of every tree's, and what shows the bound.
@@ -75,9 +78,13 @@ pub struct Tree {
 }
 
 impl Model for Tree {
+    ghost use Rattle.std.specs.Coded.{codes};
     ghost use Rattle.tree_certificate.specs.Value.{TreeValue, cert_of};
+    ghost use Rattle.tree_certificate.specs.inside.BoundCode.{bound_code};
 
     ghost Value = { TreeValue };
+
+    ghost coded = { Prim.hlevel (codes, bound_code) };
 
     ghost view = { λ tree. record { score = tree.score; upper = tree.upper; mark = tree.mark; rows = tree.rows; cert = cert_of tree.cert } };
 }
@@ -107,9 +114,13 @@ pub struct Entries {
 
 impl Model for Entries {
     ghost use Rattle.std.specs.Prelude.{List};
+    ghost use Rattle.std.specs.Coded.{codes};
     ghost use Rattle.tree_certificate.specs.declared.entry.Entry.{Entry};
+    ghost use Rattle.tree_certificate.specs.inside.BoundCode.{bound_code};
 
     ghost Value = { List Entry };
+
+    ghost coded = { Prim.hlevel (codes, bound_code) };
 
     ghost view = { λ entries. entries.items.items };
 }

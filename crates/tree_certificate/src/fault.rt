@@ -7,6 +7,8 @@ pub enum CertFault {
     BadLine(u32),
     /// A number or a count of the line is past its range.
     TooBig(u32),
+    /// The line is a split with 1,024 open splits above it.
+    TooDeep(u32),
     /// Every whole line is good, and the bytes end before the end line does.
     Truncated,
     /// There was no memory.

@@ -43,7 +43,45 @@ pub fn number_at(text: &[u8]) -> Option<(u64, &[u8])>
 }
 
 /// A number that may be negative, and the rest.
+#[inline(always)]
 pub fn signed_at(text: &[u8]) -> Option<(i64, &[u8])>
+    ensures { option_map (λ parts. (parts.0, parts.1.now)) result ≡ spec.value_at (spec.signed_kind 0) text.now }
+{
+    match short_at(text) {
+        Some((number, rest)) => Some((number, rest)),
+        None => any_at(text),
+    }
+}
+
+/// A number of at most three digits before another space, and the rest: most numbers of a table are so short.
+#[inline(always)]
+fn short_at(text: &[u8]) -> Option<(i64, &[u8])>
+    ensures { IfSome result (λ parts. Some (parts.0, parts.1.now) ≡ spec.value_at (spec.signed_kind 0) text.now) }
+{
+    if text.len() < 5 || text[0] != b' ' || !text[1].is_ascii_digit() {
+        return None;
+    }
+    let first = u32::from(text[1] - b'0');
+    if text[2] == b' ' {
+        return Some((i64::from(first), &text[2..]));
+    }
+    if first == 0 || !text[2].is_ascii_digit() {
+        return None;
+    }
+    let second = first * 10 + u32::from(text[2] - b'0');
+    if text[3] == b' ' {
+        return Some((i64::from(second), &text[3..]));
+    }
+    if !text[3].is_ascii_digit() || text[4] != b' ' {
+        return None;
+    }
+    let third = second * 10 + u32::from(text[3] - b'0');
+    Some((i64::from(third), &text[4..]))
+}
+
+/// A number of any length, and the rest.
+#[inline(never)]
+fn any_at(text: &[u8]) -> Option<(i64, &[u8])>
     ensures { option_map (λ parts. (parts.0, parts.1.now)) result ≡ spec.value_at (spec.signed_kind 0) text.now }
 {
     let (token, rest) = token_at(text)?;

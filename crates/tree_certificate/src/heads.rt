@@ -5,8 +5,8 @@ ghost use Rattle.std.specs.Option.{option_map};
 ghost use Rattle.tree_certificate.specs.Number.{greatest_number, is_near};
 ghost use Rattle.tree_certificate.specs.Line as spec;
 ghost use Rattle.tree_certificate.specs.inside.Head.{IsSmallHead, IsSmallRow, IsSmallSection, row_fields_line, body_head_line, entry_head_line, section_head_line};
-ghost use Rattle.tree_certificate.specs.inside.Need.{need_body, need_cert, need_document, need_done, need_entries, need_entry, need_formula, need_list, need_row, need_sections, need_table_row, clean_shape, first_line, line_at, refused_shape};
-ghost use Rattle.tree_certificate.specs.inside.Taking.{Takes};
+ghost use Rattle.tree_certificate.specs.inside.Need.{need_body, need_document, need_done, need_entries, need_entry, need_formula, need_list, need_row, need_sections, need_table_row, clean_shape, first_line, line_at, refused_shape};
+ghost use Rattle.tree_certificate.specs.inside.Taking.{Takes, TakesTable};
 
 use crate::cut::next_line;
 use crate::document::Skip;
@@ -32,14 +32,15 @@ const GREATEST_LISTED: u64 = 20_000;
 /// The greatest number of lists of a section.
 const GREATEST_LISTS: u64 = 41;
 
-/// The greatest number of rows of a tree and of a table, and the greatest number of a row and of a list.
-const GREATEST_ROWS: u64 = 512;
+/// The greatest number of rows of a tree and of a table, of prices and of potentials, and the greatest number of a row, of
+/// a list and of a colour.
+pub const GREATEST_ROWS: u64 = 512;
 
 /// The greatest number of numbers in a row of a table.
 const GREATEST_NUMBERS: u64 = 4_096;
 
 /// The greatest number of an edge.
-const GREATEST_EDGE: u64 = 131_071;
+pub const GREATEST_EDGE: u64 = 131_071;
 
 /// The greatest error, in units of 10^-7 Da.
 const GREATEST_ERROR: u64 = 2_000_000;
@@ -357,21 +358,22 @@ fn is_row(fields: &RowFields) -> bool
         && is_signed_within(fields.weight, GREATEST_WEIGHT)
 }
 
-/// The line that begins a certificate: the number of the rows of a table.
-pub fn cert_head(bytes: &[u8]) -> Result<(u64, &[u8]), Stop<'_>>
-    ensures { Takes need_cert (λ count. spec.table_line count) bytes.now result }
+/// The line of a table where a certificate is needed: the number of its rows. There is none where another line stands,
+/// which is a bound's then.
+pub fn table_head(bytes: &[u8]) -> Result<Option<(u64, &[u8])>, Stop<'_>>
+    ensures { TakesTable bytes.now result }
 {
     a_line_has_one_spelling();
     let Some((line, rest)) = next_line(bytes) else {
         return Err(Stop::End);
     };
     let Some(count) = lines::table(line) else {
-        return Err(Stop::Bad(bytes));
+        return Ok(None);
     };
     if !is_table(count) {
         return Err(Stop::Big(bytes));
     }
-    Ok((count, rest))
+    Ok(Some((count, rest)))
 }
 
 /// Whether a number of rows is in its range.

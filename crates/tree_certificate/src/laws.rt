@@ -2,23 +2,23 @@
 ghost use Rattle.std.specs.Prelude.{◌≡◌, ◌≢◌, ◌≤◌, ◌+◌, ◌-◌, ◌∷◌, ◌++◌, ◌⊎◌, [], ℕ, List};
 ghost use Rattle.std.specs.Prelude.{Some, None, Result, Ok, Err, true, length};
 ghost use Rattle.std.specs.List.{flat_map};
-ghost use Rattle.tree_certificate.specs.Line.{Line, header_line, in_range, line_text};
+ghost use Rattle.tree_certificate.specs.Line.{Line, header_line, in_range, is_shallow, line_text};
 ghost use Rattle.tree_certificate.specs.Document.{IsGood, IsGoodLine, ending_line, section_lines, spelling_of, text_of};
-ghost use Rattle.tree_certificate.specs.Reading.{IsAnswer, IsBadLine, IsPastEnd, IsReading, IsTooBig, IsTruncated};
+ghost use Rattle.tree_certificate.specs.Reading.{IsAnswer, IsBadLine, IsPastEnd, IsReading, IsTooBig, IsTooDeep, IsTruncated};
 ghost use Rattle.tree_certificate.specs.declared.document.Document.{Document};
 ghost use Rattle.tree_certificate.specs.declared.fault.CertFault.{CertFault};
 ghost use Rattle.tree_certificate.specs.declared.fault.CertFault.TheVariants.{OutOfMemory};
 ghost use Rattle.tree_certificate.specs.inside.Need.{Need, line_at, need_document};
-ghost use Rattle.tree_certificate.specs.inside.Verdict.{at_bad, at_big, at_end, verdict};
+ghost use Rattle.tree_certificate.specs.inside.Verdict.{at_bad, at_big, at_deep, at_end, verdict};
 
 use element_table::{a_read_formula_is_one, a_spelling_is_one_word, reading_undoes_printing};
 use mgf_reader::a_kind_has_one_number_and_one_word;
 
-/// A line that is read where something is needed is good if its numbers are in their ranges, and the text is its
-/// spelling.
+/// A line that is read where something is needed is good if its numbers are in their ranges and no more splits stand
+/// above it than may, and the text is its spelling.
 pub(crate) fn a_line_has_one_spelling()
     ensures { (need : Need) (text : List ℕ) (line : Line) → line_at need text ≡ Some line → in_range line ≡ true
-        → (text ≡ line_text line) × IsGoodLine line }
+        → is_shallow line ≡ true → (text ≡ line_text line) × IsGoodLine line }
 {
     reading_undoes_printing();
     a_read_formula_is_one();
@@ -32,9 +32,13 @@ pub(crate) fn lines_stop_as_documents_say()
         → line ≡ (length texts + 1) - length bad → IsBadLine texts line }
     ensures big { (texts bad : List (List ℕ)) (line : ℕ) → verdict (need_document ∷ []) texts ≡ Some (at_big bad)
         → line ≡ (length texts + 1) - length bad → IsTooBig texts line }
+    ensures deep { (texts bad : List (List ℕ)) (line : ℕ) → verdict (need_document ∷ []) texts ≡ Some (at_deep bad)
+        → line ≡ (length texts + 1) - length bad → IsTooDeep texts line }
     ensures bad_within { (texts bad : List (List ℕ)) → verdict (need_document ∷ []) texts ≡ Some (at_bad bad)
         → length bad ≤ length texts }
     ensures big_within { (texts bad : List (List ℕ)) → verdict (need_document ∷ []) texts ≡ Some (at_big bad)
+        → length bad ≤ length texts }
+    ensures deep_within { (texts bad : List (List ℕ)) → verdict (need_document ∷ []) texts ≡ Some (at_deep bad)
         → length bad ≤ length texts }
     ensures short { (texts : List (List ℕ)) → verdict (need_document ∷ []) texts ≡ Some at_end → IsTruncated texts }
     ensures past_end { (texts : List (List ℕ)) (unfinished : List ℕ) (line : ℕ)

@@ -1,17 +1,17 @@
 //! The lines of a document, one function a form: from its bytes to what it holds. Their numbers are not yet compared
 //! with their ranges.
-ghost use Rattle.std.specs.Prelude.{◌≡◌, [], ◌∷◌, IfOk};
+ghost use Rattle.std.specs.Prelude.{◌≡◌, [], ◌∷◌, ℕ, IfOk};
 ghost use Rattle.std.specs.Option.{option_map};
-ghost use Rattle.tree_certificate.specs.Line.{clean_line, done_line, entries_line, formula_line, header_line, list_line, lists_line, refused_line, spectrum_line, table_line, table_row_line, too_large_line, tree_line};
+ghost use Rattle.tree_certificate.specs.Line.{clean_line, done_line, entries_line, formula_line, header_line, list_line, lists_line, potentials_line, prices_line, refused_line, spectrum_line, split_line, table_line, table_row_line, too_large_line, tree_line};
 ghost use Rattle.tree_certificate.specs.Line as spec;
 ghost use Rattle.tree_certificate.specs.inside.Head.{row_fields_line};
-ghost use Rattle.tree_certificate.specs.inside.Need.{clean_shape, done_shape, entries_shape, formula_shape, header_shape, line_with, list_shape, lists_shape, no_precursor_shape, charge_shape, range_shape, too_many_shape, refused_shape, row_shape, table_shape, too_large_shape, tree_shape, spectrum_shape, table_row_shape};
+ghost use Rattle.tree_certificate.specs.inside.Need.{clean_shape, done_shape, entries_shape, formula_shape, header_shape, line_with, list_shape, lists_shape, no_precursor_shape, potentials_shape, prices_shape, split_shape, charge_shape, range_shape, too_many_shape, refused_shape, row_shape, table_shape, too_large_shape, tree_shape, spectrum_shape, table_row_shape};
 ghost use Rattle.tree_certificate.specs.inside.Field.{form_at, mark_kind, no_tail, number_kind, signed_kind, tail_at, values_at};
 ghost use Rattle.tree_certificate.specs.declared.document.Skip.TheVariants.{NoPrecursor, Charge, Range, TooMany};
 
 use crate::entry::Mark;
 use crate::fields::{behind_word, formula_at, kind_at, mark_at, number_at, signed_at, word_at};
-use crate::numbers::numbers_at;
+use crate::numbers::{naturals_at, numbers_at};
 use crate::title::title_at;
 use element_table::Formula;
 use mgf_reader::Title;
@@ -66,6 +66,47 @@ pub fn table_row(alloc: Global, line: &[u8]) -> Result<Option<Vec<i64>>, AllocEr
     ensures { IfOk result (λ read. option_map (λ row. table_row_line row.items) read ≡ line_with table_row_shape line.now) }
 {
     let Some(rest) = behind_word(b"t", line) else {
+        return Ok(None);
+    };
+    numbers_at(alloc, rest)
+}
+
+/// `split COLOUR EDGES`, under however many splits.
+pub fn split(alloc: Global, line: &[u8]) -> Result<Option<(u64, Vec<u64>)>, AllocError>
+    ensures { (above : ℕ) → IfOk result (λ read. option_map (λ x. split_line above x.0 x.1.items) read
+        ≡ line_with (split_shape above) line.now) }
+{
+    let Some(rest) = behind_word(b"split", line) else {
+        return Ok(None);
+    };
+    let Some((colour, rest)) = number_at(rest) else {
+        return Ok(None);
+    };
+    match naturals_at(alloc, rest)? {
+        Some(edges) => Ok(Some((colour, edges))),
+        None => Ok(None),
+    }
+}
+
+/// `prices NUMBERS`, of which there may be none.
+pub fn prices(alloc: Global, line: &[u8]) -> Result<Option<Vec<i64>>, AllocError>
+    ensures { IfOk result (λ read. option_map (λ prices. prices_line prices.items) read ≡ line_with prices_shape line.now) }
+{
+    let Some(rest) = behind_word(b"prices", line) else {
+        return Ok(None);
+    };
+    if rest.is_empty() {
+        return Ok(Some(Vec::new(alloc)));
+    }
+    numbers_at(alloc, rest)
+}
+
+/// `potentials NUMBERS`
+pub fn potentials(alloc: Global, line: &[u8]) -> Result<Option<Vec<i64>>, AllocError>
+    ensures { IfOk result (λ read. option_map (λ potentials. potentials_line potentials.items) read
+        ≡ line_with potentials_shape line.now) }
+{
+    let Some(rest) = behind_word(b"potentials", line) else {
         return Ok(None);
     };
     numbers_at(alloc, rest)

@@ -1,6 +1,6 @@
 //! The ranges of the numbers of a line.
 ghost use Rattle.std.specs.Prelude.{◌≡◌, ◌≤◌, ◌&&◌, IsTrue, nat_le, unsigned_abs};
-ghost use Rattle.std.specs.List.{list_all};
+ghost use Rattle.std.specs.List.{All, list_all};
 ghost use Rattle.tree_certificate.specs.Number.{is_near};
 
 /// Whether a number is in its range.
@@ -26,4 +26,12 @@ pub fn are_signed_within(numbers: &[i64], most: u64) -> bool
     ensures { result ≡ list_all (is_near most) numbers.now }
 {
     numbers.iter().all(|number| is_signed_within(*number, most))
+}
+
+/// Whether natural numbers are at most so great.
+pub fn are_within(numbers: &[u64], most: u64) -> bool
+    ensures test { result ≡ list_all (λ number. nat_le number most) numbers.now }
+    ensures within { IsTrue result → All (λ number. number ≤ most) numbers.now }
+{
+    numbers.iter().all(|number| *number <= most)
 }

@@ -1,25 +1,30 @@
 //! A document read from its lines.
-ghost use Rattle.std.specs.Prelude.{◌≡◌, ◌++◌, [], ◌∷◌, IfOk, IsTrue, length, map, replicate};
-ghost use Rattle.std.specs.List.{flat_map, list_all};
+ghost use Rattle.std.specs.Prelude.{◌≡◌, ◌<◌, ◌^◌, ◌++◌, [], ◌∷◌, IfOk, IsTrue, length, map, replicate};
+ghost use Rattle.std.specs.List.{All, flat_map, list_all};
 ghost use Rattle.tree_certificate.specs.Line as spec;
-ghost use Rattle.tree_certificate.specs.Document.{body_lines, cert_lines, ending_line, entry_lines, lines_of, list_lines, section_lines};
-ghost use Rattle.tree_certificate.specs.inside.Need.{need_body, need_cert, need_document, need_done, need_entries, need_entry, need_formula, need_list, need_row, need_sections, need_table_row};
+ghost use Rattle.tree_certificate.specs.BoundView.{bound_value};
+ghost use Rattle.tree_certificate.specs.Document.{body_lines, bound_lines, cert_lines, ending_line, entry_lines, lines_of, list_lines, section_lines};
+ghost use Rattle.tree_certificate.specs.inside.Need.{need_body, need_bound, need_cert, need_document, need_done, need_entries, need_entry, need_formula, need_list, need_potentials, need_row, need_sections, need_table_row};
 ghost use Rattle.tree_certificate.specs.Line.{done_line, entries_line};
-ghost use Rattle.tree_certificate.specs.Number.{greatest_number, is_near};
+ghost use Rattle.tree_certificate.specs.Number.{AreNear, greatest_number, is_near};
 ghost use Rattle.tree_certificate.specs.Value.{cert_of};
 ghost use Rattle.tree_certificate.specs.inside.Taking.{Reads};
 
+use crate::bound::Bound;
+use crate::bound_lines::{BoundHead, bound_head, potentials_line};
 use crate::document::{Body, Document, Ending, FormulaLists, MgfEnd, Section, Sections, Solved};
 use crate::entry::{Cert, Entries, Entry, Mark, Outcome, Tree, TreeRow, TreeRows};
 use crate::heads::{
-    BodyHead, EntryHead, SectionHead, body_head, cert_head, document_head, done_line, entries_head,
-    entry_head, formula_line, list_head, row_line, section_head, table_row_line,
+    BodyHead, EntryHead, SectionHead, body_head, document_head, done_line, entries_head,
+    entry_head, formula_line, list_head, row_line, section_head, table_head, table_row_line,
 };
+use crate::prices::PriceCert;
 use crate::stop::Stop;
 use crate::table::TableCert;
 use element_table::{Formula, FormulaList, Formulas};
 use mgf_reader::Title;
-use std::alloc::Global;
+use sqlite_items::{Boxed, Items};
+use std::alloc::{AllocError, Global};
 
 /// The value of a part and the rest, or the part's stop.
 macro_rules! part {
@@ -129,9 +134,59 @@ fn read_table_rows(
 fn read_cert(alloc: Global, bytes: &[u8]) -> Result<(Cert, &[u8]), Stop<'_>>
     ensures { Reads (need_cert ∷ []) (λ cert. cert_lines (cert_of cert)) bytes.now result }
 {
-    let (count, rest) = part!(cert_head(bytes));
+    let Some((count, rest)) = part!(table_head(bytes)) else {
+        let (bound, rest) = part!(read_bound(alloc, 0, bytes));
+        return Ok((Cert::Bounds(bound), rest));
+    };
     let (rows, rest) = part!(read_table_rows(alloc, count, rest));
     Ok((Cert::Table(TableCert::of_rows(rows)), rest))
+}
+
+/// A bound under so many splits.
+fn read_bound(alloc: Global, under: u32, bytes: &[u8]) -> Result<(Bound, &[u8]), Stop<'_>>
+    ensures { Reads (need_bound under ∷ []) (λ bound. bound_lines under (bound_value bound)) bytes.now result }
+{
+    let (head, rest) = part!(bound_head(alloc, under, bytes));
+    match head {
+        BoundHead::Prices(prices) => {
+            let (cert, rest) = part!(read_potentials(alloc, prices, rest));
+            Ok((Bound::Priced(cert), rest))
+        }
+        BoundHead::Split(colour, edges) => {
+            let edges = edges_of(alloc, edges)?;
+            let (first, rest) = part!(read_bound(alloc, under + 1, rest));
+            let (second, rest) = part!(read_bound(alloc, under + 1, rest));
+            let first = Boxed::new(alloc, first)?;
+            let second = Boxed::new(alloc, second)?;
+            Ok((Bound::Split(colour as u16, edges, first, second), rest))
+        }
+    }
+}
+
+/// The potentials behind prices, with these.
+fn read_potentials(
+    alloc: Global,
+    prices: Vec<i64>,
+    bytes: &[u8],
+) -> Result<(PriceCert, &[u8]), Stop<'_>>
+    requires { AreNear prices.items }
+    ensures taken { Reads (need_potentials ∷ []) (λ cert. spec.potentials_line cert.potentials ∷ []) bytes.now result }
+    ensures prices { IfOk result (λ both. both.0.prices ≡ prices.items) }
+{
+    let (potentials, rest) = part!(potentials_line(alloc, bytes));
+    Ok((PriceCert::of_numbers(prices, potentials), rest))
+}
+
+/// Edges as a split keeps them.
+fn edges_of(alloc: Global, edges: Vec<u64>) -> Result<Items<u32>, AllocError>
+    requires { All (λ edge. edge < 2 ^ 32) edges.items }
+    ensures { IfOk result (λ kept. kept ≡ edges.items) }
+{
+    let mut kept = Vec::new(alloc);
+    for edge in &edges {
+        kept.push(*edge as u32)?;
+    }
+    Ok(Items::from_vec(kept))
 }
 
 /// An entry.

@@ -1,5 +1,6 @@
 //! The reading of a document's bytes.
-ghost use Rattle.std.specs.Prelude.{◌≤◌, ◌≡◌, ◌-◌, ◌+◌, length};
+ghost use Rattle.std.specs.Prelude.{◌≤◌, ◌≡◌, ◌-◌, ◌+◌, IfOk, length};
+ghost use Rattle.tree_certificate.specs.Document.{EachCert, IsSmallCert};
 ghost use Rattle.mgf_reader.specs.Text.{ended_lines};
 ghost use Rattle.tree_certificate.specs.Reading.{IsAnswer};
 
@@ -14,13 +15,15 @@ use std::alloc::Global;
 /// Reads a document: the one whose spelling the bytes are, else the first refusal.
 pub fn read_document(alloc: Global, bytes: &[u8]) -> Result<Document, CertFault>
     requires { length bytes.now ≤ 268435456 }
-    ensures { IsAnswer bytes.now result }
+    ensures answer { IsAnswer bytes.now result }
+    ensures small { IfOk result (λ document. EachCert IsSmallCert document) }
 {
     lines_stop_as_documents_say();
     let (document, rest) = match read_all(alloc, bytes) {
         Ok(both) => both,
         Err(Stop::Bad(left)) => return Err(CertFault::BadLine(line_of(bytes, left))),
         Err(Stop::Big(left)) => return Err(CertFault::TooBig(line_of(bytes, left))),
+        Err(Stop::Deep(left)) => return Err(CertFault::TooDeep(line_of(bytes, left))),
         Err(Stop::End) => return Err(CertFault::Truncated),
         Err(Stop::OutOfMemory) => return Err(CertFault::OutOfMemory),
     };

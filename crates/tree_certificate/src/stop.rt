@@ -10,6 +10,8 @@ pub enum Stop<'a> {
     Bad(&'a [u8]),
     /// A number or a count of their first line is past its range.
     Big(&'a [u8]),
+    /// As many splits stand above their first line, which is a split, as may.
+    Deep(&'a [u8]),
     /// No whole line is left.
     End,
     /// There was no memory.

@@ -64,7 +64,7 @@ fn are_numbers(rows: &[Vec<i64>]) -> bool
 }
 
 /// Whether all numbers of a row may stand in a certificate.
-fn is_row(row: &[i64]) -> bool
+pub(crate) fn is_row(row: &[i64]) -> bool
     ensures { result ≡ list_all (is_near greatest_number) row.now }
 {
     row.iter().all(|number| is_near_zero(*number))

@@ -54,7 +54,7 @@ f CH4\n\
 f CHNOPSFClBrISi\n\
 list 1 1000000000000000000 1\n\
 f -\n\
-entries 3\n\
+entries 5\n\
 entry C1999 0 too-large 4294967295\n\
 entry CH4 2000000 -3 1000000000000000 gap 0\n\
 table 1\n\
@@ -63,6 +63,18 @@ entry H2O 5 -1000000000000000 -5 optimal 2\n\
 r 131071 0 512 CH4 - -100000\n\
 r 0 512 0 - C2H2 100000\n\
 table 0\n\
+entry CH4 0 0 0 optimal 0\n\
+prices\n\
+potentials -1000000000000000 1000000000000000 0\n\
+entry CH4 0 0 7 gap 0\n\
+split 512 131071 0 7\n\
+split 0 0\n\
+prices 1 -2\n\
+potentials 3\n\
+prices 4\n\
+potentials 5 6\n\
+prices -7\n\
+potentials 8\n\
 done\n\
 end refused 4294967295 too-many-peaks\n";
 
@@ -106,7 +118,6 @@ const REFUSED: &[u8] = b"\
 10t10 r 0 513 1 C6H10O5 H2O 52\n\
 10t10 r 0 0 513 C6H10O5 H2O 52\n\
 10t10 r 0 0 1 C6H10O5 H2O -100001\n\
-11b11 prices 52\n\
 11t11 table 513\n\
 12b12 t 0 052\n\
 12t12 t 1000000000000001\n\
@@ -119,17 +130,27 @@ const REFUSED: &[u8] = b"\
 
 /// The document of glucose with another line of this number.
 fn with_line(alloc: Global, number: u32, line: &[u8]) -> Result<Vec<u8>, AllocError> {
+    with_lines(alloc, number, number, line)
+}
+
+/// The document of glucose with others in place of its lines from one number to another.
+pub fn with_lines(
+    alloc: Global,
+    first: u32,
+    last: u32,
+    lines: &[u8],
+) -> Result<Vec<u8>, AllocError> {
     let mut text = Vec::new(alloc);
     let mut at: u32 = 1;
     for byte in GLUCOSE {
-        if *byte == b'\n' {
-            if at == number {
-                text.extend_from_slice(line)?;
-            }
-            text.push(b'\n')?;
-            at = at.saturating_add(1);
-        } else if at != number {
+        if at < first || last < at {
             text.push(*byte)?;
+        } else if at == first && *byte == b'\n' {
+            text.extend_from_slice(lines)?;
+            text.push(b'\n')?;
+        }
+        if *byte == b'\n' {
+            at = at.saturating_add(1);
         }
     }
     Ok(text)
@@ -144,7 +165,7 @@ fn read(alloc: Global, text: &[u8]) -> Option<Result<Document, CertFault>> {
 }
 
 /// Why bytes are refused, if they are.
-fn fault_of(alloc: Global, text: &[u8]) -> Option<CertFault> {
+pub fn fault_of(alloc: Global, text: &[u8]) -> Option<CertFault> {
     match read(alloc, text) {
         Some(Err(fault)) => Some(fault),
         _ => None,
@@ -152,7 +173,7 @@ fn fault_of(alloc: Global, text: &[u8]) -> Option<CertFault> {
 }
 
 /// The document that bytes are.
-fn document_of(alloc: Global, text: &[u8]) -> Result<Document, Fail> {
+pub fn document_of(alloc: Global, text: &[u8]) -> Result<Document, Fail> {
     match read(alloc, text) {
         Some(Ok(document)) => Ok(document),
         _ => Err(Fail::new("no document")),
@@ -173,7 +194,7 @@ fn written(alloc: Global, document: &Document) -> Result<Vec<u8>, AllocError> {
 }
 
 /// Bytes are a document's, and are written again for it.
-fn is_written_again(rt: &impl Abort, alloc: Global, text: &[u8]) -> Result<(), Fail> {
+pub fn is_written_again(rt: &impl Abort, alloc: Global, text: &[u8]) -> Result<(), Fail> {
     let document = document_of(alloc, text)?;
     let again = written(alloc, &document)?;
     assert_eq!(rt; again.as_slice(), text);
@@ -181,7 +202,7 @@ fn is_written_again(rt: &impl Abort, alloc: Global, text: &[u8]) -> Result<(), F
 }
 
 /// The first tree of a document's first section.
-fn first_tree(document: &Document) -> Option<&Tree> {
+pub fn first_tree(document: &Document) -> Option<&Tree> {
     let section = document.sections.items().first()?;
     let Body::Solved(solved) = &section.body else {
         return None;
@@ -213,7 +234,9 @@ fn glucose_is_read(rt: HostRuntime) -> Result<(), Fail> {
         );
         assert_eq!(rt; row.loss, Formula::empty().with(0, 2).with(3, 1));
     }
-    let Cert::Table(table) = &tree.cert;
+    let Cert::Table(table) = &tree.cert else {
+        return Err(Fail::new("no table"));
+    };
     let mut numbers = Vec::new(rt.alloc());
     for row in table.rows() {
         numbers.extend_from_slice(row)?;

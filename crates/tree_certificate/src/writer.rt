@@ -8,6 +8,7 @@ ghost use Rattle.tree_certificate.specs.declared.entry.Outcome.TheVariants as va
 ghost use Rattle.tree_certificate.specs.Value.{cert_of};
 ghost use Rattle.tree_certificate.specs.Line as spec;
 
+use crate::bound_writer::push_bound;
 use crate::document::{Body, Ending, Section, Skip, Solved};
 use crate::entry::{Cert, Entry, Mark, Outcome, Tree, TreeRow};
 use crate::title::push_escaped;
@@ -106,7 +107,7 @@ fn push_table_row(text: &mut Vec<u8>, row: &[i64]) -> Result<(), AllocError>
 }
 
 /// Appends a space and a number.
-fn push_number(text: &mut Vec<u8>, number: u64) -> Result<(), AllocError>
+pub fn push_number(text: &mut Vec<u8>, number: u64) -> Result<(), AllocError>
     ensures { OnOk result (text.new.items ≡ text.old.items ++ (codes " " ++ decimal number)) }
 {
     text.push(b' ')?;
@@ -132,8 +133,8 @@ fn push_formula(text: &mut Vec<u8>, formula: &Formula) -> Result<(), AllocError>
     Ok(())
 }
 
-/// Appends the numbers of a row of a table.
-fn push_numbers(text: &mut Vec<u8>, numbers: &[i64]) -> Result<(), AllocError>
+/// Appends numbers, each with a space before it.
+pub fn push_numbers(text: &mut Vec<u8>, numbers: &[i64]) -> Result<(), AllocError>
     ensures { OnOk result (text.new.items ≡ text.old.items
         ++ flat_map (λ number. codes " " ++ signed_decimal number) numbers.now) }
 {
@@ -339,6 +340,7 @@ fn push_cert(text: &mut Vec<u8>, cert: &Cert) -> Result<(), AllocError>
 {
     match cert {
         Cert::Table(table) => push_table(text, table.rows())?,
+        Cert::Bounds(bound) => push_bound(text, bound)?,
     }
     Ok(())
 }

@@ -1,6 +1,7 @@
 -- What a number of a table is to be at least, over the numbers of one vertex for the sets of the colours behind one,
 -- and what the edges from it into that colour gain.
-use Rattle.std.specs.Prelude.{◌≡◌, ◌<◌, ◌↔◌, ℕ, ℤ, pos, negsuc, ◌+ℤ◌, ◌≤ℤ◌, Bool, List, slice_index_or}
+use Rattle.std.specs.Prelude.{◌≡◌, ◌<◌, ◌≤◌, ◌-◌, ◌↔◌, ℕ, ℤ, pos, negsuc, ◌+ℤ◌, ◌≤ℤ◌, Bool, List, slice_index_or}
+use Rattle.std.specs.Int.Bits.{bit_and}
 use Rattle.colour_graph.specs.Graph.{Graph, edge_at, head_colour}
 use Rattle.tree_certificate.specs.ColourSet.{IsPartOf, place_of, without}
 use Rattle.tree_certificate.specs.TableHolds.{number_at}
@@ -40,11 +41,17 @@ pub record IsEnough (own gains : List ℤ) (set : List Bool) (upper : ℤ) : Typ
   pub taken : (part : List Bool) → IsPartOf part set
       → (number_in gains (place_of part) +ℤ number_in own (place_of (without set part))) ≤ℤ upper
 
--- the same for the empty part and for the parts whose places are above one
-pub record IsEnoughAbove (own gains : List ℤ) (set : List Bool) (place : ℕ) (upper : ℤ) : Type 0 where
+-- the same where a head gets no other colours than those of a part of the set
+pub record IsEnoughOf (own gains : List ℤ) (set useful : List Bool) (upper : ℤ) : Type 0 where
+  pub left_out : number_in own (place_of set) ≤ℤ upper
+  pub taken : (part : List Bool) → IsPartOf part useful
+      → (number_in gains (place_of part) +ℤ number_in own (place_of (without set part))) ≤ℤ upper
+
+-- the same for the empty part and for the parts of it whose places are above one
+pub record IsEnoughAbove (own gains : List ℤ) (set useful : List Bool) (place : ℕ) (upper : ℤ) : Type 0 where
   pub left_out : number_in own (place_of set) ≤ℤ upper
   pub empty : (number_in gains 0 +ℤ number_in own (place_of set)) ≤ℤ upper
-  pub taken : (part : List Bool) → IsPartOf part set → place < place_of part
+  pub taken : (part : List Bool) → IsPartOf part useful → place < place_of part
       → (number_in gains (place_of part) +ℤ number_in own (place_of (without set part))) ≤ℤ upper
 
 -- a part of a set that stands at a place
@@ -52,6 +59,41 @@ pub record PartAt (set : List Bool) (place : ℕ) : Type 0 where
   pub part : List Bool
   pub is_part : IsPartOf part set
   pub at_place : place_of part ≡ place
+
+-- A colour, by the place of the set of it alone, adds nothing to the sets that stand before a place: from each of them
+-- that it is in, no more is gained than from the set without it, whose number is no greater.
+abbrev pub AddsNothing : List ℤ → List ℤ → ℕ → ℕ → Type 0
+AddsNothing own gains count colour = (place : ℕ) → place < count → colour ≤ place → 0 < bit_and place colour
+    → (number_in gains place ≤ℤ number_in gains (place - colour))
+    × (number_in own (place - colour) ≤ℤ number_in own place)
+
+-- Wherever it is in a set that stands before a place, a number for the set is no greater than the one without it.
+abbrev pub RaisesNothing : List ℤ → ℕ → ℕ → Type 0
+RaisesNothing numbers count colour = (place : ℕ) → place < count → colour ≤ place → 0 < bit_and place colour
+    → number_in numbers place ≤ℤ number_in numbers (place - colour)
+
+-- the part of a set that stands at a place, where a head needs no other colour of the set
+pub record UsefulPart (own gains : List ℤ) (set : List Bool) (place : ℕ) : Type 0 where
+  pub part : List Bool
+  pub is_part : IsPartOf part set
+  pub at_place : place_of part ≡ place
+  pub enough : (upper : ℤ) → IsEnoughOf own gains set part upper → IsEnough own gains set upper
+
+-- No head needs a colour that is not of a set that stands at a place, whichever of so many sets is looked at.
+abbrev pub AreUseful : List ℤ → List ℤ → ℕ → ℕ → Type 0
+AreUseful own gains count useful = (set : List Bool) → place_of set < count
+    → UsefulPart own gains set (bit_and (place_of set) useful)
+
+-- a set that stands at a place, where what is enough for this one is enough for another
+pub record TellingPart (own gains : List ℤ) (set : List Bool) (place : ℕ) : Type 0 where
+  pub part : List Bool
+  pub at_place : place_of part ≡ place
+  pub enough : (upper : ℤ) → IsEnough own gains part upper → IsEnough own gains set upper
+
+-- No colour makes a difference that is not of a set that stands at a place, whichever of so many sets is looked at.
+abbrev pub AreTelling : List ℤ → List ℤ → ℕ → ℕ → Type 0
+AreTelling own gains count telling = (set : List Bool) → place_of set < count
+    → TellingPart own gains set (bit_and (place_of set) telling)
 
 -- A number is the least one that is enough for the sets that stand at a place.
 abbrev pub IsLeastEnough : List ℤ → List ℤ → ℕ → ℤ → Type 0

@@ -45,7 +45,8 @@ pub record IsListsPlace (lists own : List FormulaListValue) (number : ℕ) : Typ
 
 -- where the tree of an entry is wrong first
 abbrev pub IsPlaceIn : SolveSettingsValue → List FormulaListValue → List ℕ → Outcome → EntryPlace → Type 0
-IsPlaceIn settings lists candidate (outcome.Tree tree) place = IsEntryPlace (graph_of settings lists candidate) tree place
+IsPlaceIn settings lists candidate (outcome.Tree tree) place =
+    IsEntryPlace (graph_of settings lists candidate) tree settings.budget place
 IsPlaceIn settings lists candidate (outcome.TooLarge vertices) place = ⊥
 
 -- the number, from 1, of the first entry whose tree is wrong, and where the tree is wrong first

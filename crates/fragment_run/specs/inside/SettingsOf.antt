@@ -13,4 +13,5 @@ solve_settings_value_of settings = record {
   listing = settings_value_of settings.listing;
   candidate_rules = settings.candidate_rules.items;
   scores = settings.scores.now;
+  budget = settings.budget;
 }

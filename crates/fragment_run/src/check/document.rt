@@ -1,6 +1,8 @@
 //! Whether the bytes of a document spell one that is right for a text, and where not.
 ghost use Rattle.std.specs.Prelude.{◌≡◌, ◌≤◌, IfOk, length};
 ghost use Rattle.frag_io.specs.declared.desk.Slot.TheVariants.{CertIn, Spectra};
+ghost use Rattle.std.specs.List.{AllByRecursion};
+ghost use Rattle.tree_certificate.specs.Document.{EachCert, IsSmallCert, OfBody};
 ghost use Rattle.fragment_run.specs.Limits.{greatest_text_of};
 ghost use Rattle.fragment_run.specs.check.CheckPromise.{IsOutcome};
 ghost use Rattle.fragment_run.specs.inside.CheckAnswers.{AreSectionsAnswer};
@@ -56,6 +58,7 @@ fn compare(
     requires short { length text.now ≤ greatest_text_of Spectra }
     requires few { length document.now.sections ≤ greatest_text_of CertIn }
     requires peaks { settings.now.listing.choice.peaks ≤ 40 }
+    requires small { EachCert IsSmallCert document.now }
     ensures { IfOk result (IsComparison (solve_settings_value_of settings.now) text.now document.now) }
 {
     let mut reader = Reader::new(alloc)?;
@@ -82,6 +85,7 @@ fn first_wrong_section(
 ) -> Result<Option<RejectPlace>, AllocError>
     requires few { length sections.now ≤ greatest_text_of CertIn }
     requires peaks { settings.now.listing.choice.peaks ≤ 40 }
+    requires small { AllByRecursion (λ section. OfBody IsSmallCert section.body) sections.now }
     ensures { IfOk result (AreSectionsAnswer (solve_settings_value_of settings.now) reader.old.waiting sections.now) }
 {
     let mut number = 0;

@@ -1,11 +1,12 @@
 //! Where the lists and entries of a section differ first from the right ones.
 ghost use Rattle.std.specs.Prelude.{◌≡◌, ◌≤◌, ◌↔◌, true, IfOk, MatchOption, Ok, length, map};
-ghost use Rattle.std.specs.List.{All, AllPairs};
+ghost use Rattle.std.specs.List.{All, AllByRecursion, AllPairs};
 ghost use Rattle.std.specs.List.Sorted.{IsPermutation};
 ghost use Rattle.std.specs.declared.cmp.Ordering.TheVariants.{Less};
 ghost use Rattle.element_table.specs.Formula.{formula_cmp};
 ghost use Rattle.loss_graph.specs.Lists.{AreLists, list_at};
 ghost use Rattle.rank_report.specs.Rank.{rank_cmp};
+ghost use Rattle.tree_certificate.specs.Document.{IsSmallCert, OfOutcome};
 ghost use Rattle.fragment_run.specs.Candidates.{candidates_of, ion_of};
 ghost use Rattle.fragment_run.specs.RightSection.{ErrorIsRight};
 ghost use Rattle.fragment_run.specs.check.CheckPlaces.{IsFirstWrong, IsListsPlace, IsOrderPlace};
@@ -32,6 +33,7 @@ pub fn solved_place(
 ) -> Result<Option<RejectPart>, AllocError>
     requires peaks { settings.now.listing.choice.peaks ≤ 40 }
     requires own { AreOwnLists settings.now.listing.choice lists.now }
+    requires small { AllByRecursion (λ entry. OfOutcome IsSmallCert entry.outcome) solved.now.entries }
     ensures { IfOk result (IsSolvedAnswer (solve_settings_value_of settings.now) lists.now solved.now) }
 {
     if let Some(number) = first_other_list(lists, solved.lists.items()) {

@@ -1,5 +1,6 @@
 //! Where a section of a document differs first from the right ones of its spectrum.
 ghost use Rattle.std.specs.Prelude.{◌≡◌, ◌≢◌, ◌≤◌, ◌⊎◌, IfOk, MatchBool};
+ghost use Rattle.tree_certificate.specs.Document.{IsSmallCert, OfBody};
 ghost use Rattle.fragment_run.specs.inside.CheckAnswers.{IsBodyAnswer, IsSectionAnswer};
 ghost use Rattle.fragment_run.specs.inside.Outlines.{HasOwnLists, outline_of};
 ghost use Rattle.fragment_run.specs.inside.SettingsOf.{solve_settings_value_of};
@@ -20,6 +21,7 @@ pub fn section_place(
     settings: &SolveSettings,
 ) -> Result<Option<RejectPart>, AllocError>
     requires peaks { settings.now.listing.choice.peaks ≤ 40 }
+    requires small { OfBody IsSmallCert section.now.body }
     ensures { IfOk result (IsSectionAnswer (solve_settings_value_of settings.now) spectrum.now section.now) }
 {
     let outline = read_outline(alloc, spectrum, &settings.listing)?;
@@ -47,6 +49,7 @@ fn body_place(
 ) -> Result<Option<RejectPart>, AllocError>
     requires peaks { settings.now.listing.choice.peaks ≤ 40 }
     requires lists { HasOwnLists settings.now.listing.choice (outline_of outline.now) }
+    requires small { OfBody IsSmallCert body.now }
     ensures { IfOk result (IsBodyAnswer (solve_settings_value_of settings.now) (outline_of outline.now) body.now) }
 {
     match (outline, body) {

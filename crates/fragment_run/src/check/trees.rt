@@ -1,7 +1,8 @@
 //! Where the graphs and trees of entries differ first from the right ones.
 ghost use Rattle.std.specs.Prelude.{◌≡◌, ◌≤◌, IfOk, length};
-ghost use Rattle.std.specs.List.{All};
+ghost use Rattle.std.specs.List.{All, AllByRecursion};
 ghost use Rattle.loss_graph.specs.Lists.{AreLists};
+ghost use Rattle.tree_certificate.specs.Document.{IsSmallCert, OfOutcome};
 ghost use Rattle.fragment_run.specs.Candidates.{ion_of};
 ghost use Rattle.fragment_run.specs.inside.CheckAnswers.{AreTreesAnswer, IsFinding};
 ghost use Rattle.fragment_run.specs.inside.SettingsOf.{solve_settings_value_of};
@@ -36,6 +37,7 @@ pub fn trees_place(
     requires few { length entries.now ≤ 20000 }
     requires lists { All (λ entry. AreLists settings.now.listing.choice
         (ion_of (solve_settings_value_of settings.now) entry.candidate) lists.now) entries.now }
+    requires small { AllByRecursion (λ entry. OfOutcome IsSmallCert entry.outcome) entries.now }
     ensures { IfOk result (AreTreesAnswer (solve_settings_value_of settings.now) lists.now entries.now) }
 {
     let mut first = None;
@@ -61,6 +63,7 @@ fn finding_of(
 ) -> Result<Finding, AllocError>
     requires lists { AreLists settings.now.listing.choice
         (ion_of (solve_settings_value_of settings.now) entry.now.candidate) lists.now }
+    requires small { OfOutcome IsSmallCert entry.now.outcome }
     ensures { IfOk result (IsFinding (solve_settings_value_of settings.now) lists.now entry.now) }
 {
     match (
@@ -73,7 +76,12 @@ fn finding_of(
         ),
         &entry.outcome,
     ) {
-        (Ok(built), Outcome::Tree(tree)) => match check_entry(alloc, &built, tree)? {
+        (Ok(built), Outcome::Tree(tree)) => match check_entry(
+            alloc,
+            &built,
+            tree,
+            settings.budget,
+        )? {
             EntryVerdict::Right => Ok(Finding::Right),
             EntryVerdict::Wrong(place) => Ok(Finding::Tree(place)),
         },

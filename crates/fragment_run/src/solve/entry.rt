@@ -84,7 +84,7 @@ fn best_tree(alloc: Global, built: &LossGraph) -> Result<Tree, AllocError>
     requires colours { colour_count built.now.graph ≤ 12 }
     requires vertices { length built.now.graph.colours ≤ 512 }
     requires peaks { (colour : ℕ) → slice_index built.now.peaks colour ≤ 512 }
-    ensures entry { IfOk result (λ tree. EntryIsRight built.now tree) }
+    ensures entry { (budget : ℕ) → IfOk result (λ tree. EntryIsRight built.now tree budget) }
     ensures bounded { IfOk result (λ tree. IsBounded built.now.graph (all_edges built.now.graph) tree.upper) }
     ensures good { IfOk result (λ tree. HasGoodLines (outcomes.Tree tree)) }
 {

@@ -1,5 +1,5 @@
 -- How a line is taken apart: its first word, then a field after each space.
-use Rattle.std.specs.Prelude.{◌+◌, ◌-◌, ◌*◌, ◌%◌, ◌==◌, ◌&&◌, ℕ, ℤ, pos, neg_ℤ, min, Bool, not, List, [], ◌∷◌, length, drop, codes, Option, Some, None, Result, Ok, Err, nat_eq, nat_le, nat_lt, slice_index, if◌then◌else◌}
+use Rattle.std.specs.Prelude.{◌+◌, ◌-◌, ◌*◌, ◌%◌, ◌==◌, ◌&&◌, ℕ, ℤ, pos, neg_ℤ, min, Bool, not, List, [], ◌∷◌, length, map, drop, codes, Option, Some, None, Result, Ok, Err, nat_eq, nat_le, nat_lt, slice_index, if◌then◌else◌}
 use Rattle.std.specs.List.{before_first, position_or_len, slice_split, starts_with}
 use Rattle.std.specs.Option.{option_and_then, option_map}
 use Rattle.std.specs.Str.{bytes_eq}
@@ -72,11 +72,13 @@ pub data Kind : Type 0 where
   mark_kind : Kind
   kind_kind : Kind
 
--- what may stand behind them: nothing, a title, or numbers
+-- what may stand behind them: nothing, a title, numbers, of which there may be none or not, or natural numbers, of which
+-- there is one
 pub data Tail : Type 0 where
   no_tail : Tail
   title_tail : Tail
-  numbers_tail : ℕ → ℕ → Tail
+  numbers_tail : Bool → ℕ → ℕ → Tail
+  naturals_tail : ℕ → ℕ → Tail
 
 abbrev pub Of : Kind → Type 0
 Of (word_kind word) = Unit {0}
@@ -89,7 +91,8 @@ Of kind_kind = ℕ
 abbrev pub OfTail : Tail → Type 0
 OfTail no_tail = Unit {0}
 OfTail title_tail = List ℕ
-OfTail (numbers_tail count most) = List ℤ
+OfTail (numbers_tail none count most) = List ℤ
+OfTail (naturals_tail count most) = List ℕ
 
 abbrev pub Values : List Kind → Tail → Type 0
 Values [] tail = OfTail tail
@@ -106,7 +109,8 @@ field_of kind_kind value = a_kind value
 abbrev pub tail_fields : (tail : Tail) → OfTail tail → List Field
 tail_fields no_tail value = []
 tail_fields title_tail value = a_title value ∷ []
-tail_fields (numbers_tail count most) value = some_numbers count most value ∷ []
+tail_fields (numbers_tail none count most) value = some_numbers (if none then 0 else 1) count most value ∷ []
+tail_fields (naturals_tail count most) value = some_numbers 1 count most (map (λ number. pos number) value) ∷ []
 
 abbrev pub fields_of : (kinds : List Kind) (tail : Tail) → Values kinds tail → List Field
 fields_of [] tail value = tail_fields tail value
@@ -165,10 +169,22 @@ numbers_at (byte ∷ rest) = if is_space byte then numbers_in (slice_split is_sp
 abbrev pub some_numbers_at : List ℕ → Option (List ℤ)
 some_numbers_at text = if length text == 0 then None else numbers_at text
 
+-- the natural numbers of tokens
+abbrev pub naturals_in : List (List ℕ) → Option (List ℕ)
+naturals_in [] = Some []
+naturals_in (token ∷ tokens) =
+    option_and_then (λ number. option_map (λ numbers. number ∷ numbers) (naturals_in tokens)) (number_in token)
+
+-- the natural numbers to the end of a line, each behind a space; there is at least one
+abbrev pub naturals_at : List ℕ → Option (List ℕ)
+naturals_at [] = None
+naturals_at (byte ∷ rest) = if is_space byte then naturals_in (slice_split is_space rest) else None
+
 abbrev pub tail_at : (tail : Tail) → List ℕ → Option (OfTail tail)
 tail_at no_tail text = if length text == 0 then Some tt else None
 tail_at title_tail text = title_at text
-tail_at (numbers_tail count most) text = some_numbers_at text
+tail_at (numbers_tail none count most) text = if none then numbers_at text else some_numbers_at text
+tail_at (naturals_tail count most) text = naturals_at text
 
 -- the values of all fields behind the first word
 abbrev pub values_at : (kinds : List Kind) (tail : Tail) → List ℕ → Option (Values kinds tail)

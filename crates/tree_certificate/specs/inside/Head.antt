@@ -1,5 +1,8 @@
 -- The lines that a part of the reader has taken, by what they hold.
-use Rattle.std.specs.Prelude.{◌<◌, ◌≤◌, ◌^◌, unsigned_abs}
+use Rattle.std.specs.Prelude.{◌<◌, ◌≤◌, ◌^◌, ℕ, unsigned_abs}
+use Rattle.std.specs.List.{All}
+use Rattle.tree_certificate.specs.declared.bound_lines.BoundHead.{BoundHead}
+use Rattle.tree_certificate.specs.declared.bound_lines.BoundHead.TheVariants.{Prices, Split}
 use Rattle.tree_certificate.specs.declared.heads.SectionHead.{SectionHead}
 use Rattle.tree_certificate.specs.declared.heads.SectionHead.TheVariants.{Spectrum, Clean, Refused}
 use Rattle.tree_certificate.specs.declared.heads.BodyHead.{BodyHead}
@@ -7,7 +10,8 @@ use Rattle.tree_certificate.specs.declared.heads.BodyHead.TheVariants.{Skipped, 
 use Rattle.tree_certificate.specs.declared.heads.EntryHead.{EntryHead}
 use Rattle.tree_certificate.specs.declared.heads.EntryHead.TheVariants.{TooLarge, Tree}
 use Rattle.tree_certificate.specs.declared.lines.RowFields.{RowFields}
-use Rattle.tree_certificate.specs.Line.{Line, clean_line, lists_line, refused_line, row_line, skip_line, spectrum_line, too_large_line, tree_line}
+use Rattle.tree_certificate.specs.Line.{Line, clean_line, lists_line, prices_line, refused_line, row_line, skip_line, spectrum_line, split_line, too_large_line, tree_line}
+use Rattle.tree_certificate.specs.Number.{AreNear}
 
 abbrev pub section_head_line : SectionHead → Line
 section_head_line (Spectrum line title) = spectrum_line line title
@@ -51,3 +55,18 @@ abbrev pub IsSmallHead : EntryHead → Type 0
 IsSmallHead (TooLarge candidate error vertices) = vertices < 2 ^ 32
 IsSmallHead (Tree candidate error score upper mark count) =
     (unsigned_abs score ≤ 1000000000000000) × (unsigned_abs upper ≤ 1000000000000000)
+
+-- the line of a bound under so many splits
+abbrev pub bound_head_line : ℕ → BoundHead → Line
+bound_head_line above (Prices prices) = prices_line prices.items
+bound_head_line above (Split colour edges) = split_line above colour edges.items
+
+-- prices may stand in a certificate, and the colour and the edges of a split fit their types
+abbrev pub IsSmallBound : BoundHead → Type 0
+IsSmallBound (Prices prices) = AreNear prices.items
+IsSmallBound (Split colour edges) = (colour < 2 ^ 16) × All (λ edge. edge < 2 ^ 32) edges.items
+
+-- a split stands where one may
+abbrev pub IsOpen : ℕ → BoundHead → Type 0
+IsOpen under (Prices prices) = Unit {0}
+IsOpen under (Split colour edges) = under < 1024

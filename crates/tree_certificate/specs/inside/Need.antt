@@ -1,10 +1,10 @@
 -- What may stand where something is needed, and what is needed behind it.
-use Rattle.std.specs.Prelude.{ℕ, List, [], ◌∷◌, ◌++◌, codes, replicate, Option, Some, None}
+use Rattle.std.specs.Prelude.{◌+◌, ◌==◌, ℕ, true, false, List, [], ◌∷◌, ◌++◌, codes, replicate, Option, Some, None, if◌then◌else◌}
 use Rattle.std.specs.Option.{option_map}
 use Rattle.tree_certificate.specs.declared.document.Skip.TheVariants.{NoPrecursor, Charge, Range, TooMany}
 use Rattle.tree_certificate.specs.Number.{greatest_number}
-use Rattle.tree_certificate.specs.Line.{Line, header_line, clean_line, refused_line, spectrum_line, skip_line, lists_line, list_line, formula_line, entries_line, too_large_line, tree_line, row_line, table_line, table_row_line, done_line, greatest_line_number, greatest_peak_number, greatest_rows}
-use Rattle.tree_certificate.specs.inside.Field.{Kind, word_kind, number_kind, signed_kind, formula_kind, mark_kind, kind_kind, Tail, no_tail, title_tail, numbers_tail, Values, form_at}
+use Rattle.tree_certificate.specs.Line.{Line, header_line, clean_line, refused_line, spectrum_line, skip_line, lists_line, list_line, formula_line, entries_line, too_large_line, tree_line, row_line, table_line, table_row_line, split_line, prices_line, potentials_line, done_line, greatest_line_number, greatest_peak_number, greatest_rows}
+use Rattle.tree_certificate.specs.inside.Field.{Kind, word_kind, number_kind, signed_kind, formula_kind, mark_kind, kind_kind, Tail, no_tail, title_tail, numbers_tail, naturals_tail, Values, form_at}
 
 pub data Need : Type 0 where
   need_document : Need
@@ -17,6 +17,9 @@ pub data Need : Type 0 where
   need_row : Need
   need_cert : Need
   need_table_row : Need
+  -- under so many splits
+  need_bound : ℕ → Need
+  need_potentials : Need
   need_done : Need
 
 -- what is needed behind a line that stands where something is needed; none where the line may not stand there
@@ -34,6 +37,13 @@ follow need_entry (too_large_line candidate error vertices) = Some []
 follow need_entry (tree_line candidate error score upper mark count) = Some (replicate count need_row ++ need_cert ∷ [])
 follow need_row (row_line it) = Some []
 follow need_cert (table_line count) = Some (replicate count need_table_row)
+follow need_cert (prices_line numbers) = Some (need_potentials ∷ [])
+follow need_cert (split_line above colour edges) =
+    if above == 0 then Some (need_bound 1 ∷ need_bound 1 ∷ []) else None
+follow (need_bound under) (prices_line numbers) = Some (need_potentials ∷ [])
+follow (need_bound under) (split_line above colour edges) =
+    if above == under then Some (need_bound (under + 1) ∷ need_bound (under + 1) ∷ []) else None
+follow need_potentials (potentials_line numbers) = Some []
 follow need_table_row (table_row_line items) = Some []
 follow need_done done_line = Some []
 follow need line = None
@@ -187,8 +197,33 @@ abbrev pub table_row_shape : Shape
 table_row_shape = record {
   word = codes "t";
   kinds = [];
-  tail = numbers_tail 4096 greatest_number;
+  tail = numbers_tail false 4096 greatest_number;
   make = λ values. table_row_line values;
+}
+
+-- the ways to read a line of a bound under so many splits
+abbrev pub split_shape : ℕ → Shape
+split_shape above = record {
+  word = codes "split";
+  kinds = number_kind 0 greatest_rows ∷ [];
+  tail = naturals_tail 131072 131071;
+  make = λ values. split_line above values.0 values.1;
+}
+
+abbrev pub prices_shape : Shape
+prices_shape = record {
+  word = codes "prices";
+  kinds = [];
+  tail = numbers_tail true greatest_rows greatest_number;
+  make = λ values. prices_line values;
+}
+
+abbrev pub potentials_shape : Shape
+potentials_shape = record {
+  word = codes "potentials";
+  kinds = [];
+  tail = numbers_tail false greatest_rows greatest_number;
+  make = λ values. potentials_line values;
 }
 
 abbrev pub done_shape : Shape
@@ -204,8 +239,10 @@ shapes_of need_formula = formula_shape ∷ []
 shapes_of need_entries = entries_shape ∷ []
 shapes_of need_entry = tree_shape ∷ too_large_shape ∷ []
 shapes_of need_row = row_shape ∷ []
-shapes_of need_cert = table_shape ∷ []
+shapes_of need_cert = table_shape ∷ prices_shape ∷ split_shape 0 ∷ []
 shapes_of need_table_row = table_row_shape ∷ []
+shapes_of (need_bound under) = prices_shape ∷ split_shape under ∷ []
+shapes_of need_potentials = potentials_shape ∷ []
 shapes_of need_done = done_shape ∷ []
 
 abbrev pub line_with : Shape → List ℕ → Option Line

@@ -2,14 +2,15 @@
 use Rattle.std.specs.Prelude.{◌≡◌, ◌++◌, ℕ, List, [], ◌∷◌, Option, Some, None, if◌then◌else◌}
 use Rattle.mgf_reader.specs.Text.{ended_lines, unfinished_line}
 use Rattle.tree_certificate.specs.Document.{AreGoodLines, text_of}
-use Rattle.tree_certificate.specs.Line.{Line, in_range}
+use Rattle.tree_certificate.specs.Line.{Line, in_range, is_shallow}
 use Rattle.tree_certificate.specs.inside.Need.{Need, follow, line_at}
 
--- why the lines are not taken to the end: no line may stand there, or a number is past its range, with the texts from
--- there on; or something is still needed
+-- why the lines are not taken to the end: no line may stand there, or a number is past its range, or too many splits
+-- stand above it, with the texts from there on; or something is still needed
 pub data Stop : Type 0 where
   at_bad : List (List ℕ) → Stop
   at_big : List (List ℕ) → Stop
+  at_deep : List (List ℕ) → Stop
   at_end : Stop
 
 -- what is needed behind a line that may stand there
@@ -19,7 +20,8 @@ next_needs (Some needs) = needs
 
 abbrev pub judged : List (List ℕ) → Option Line → (Line → Option Stop) → Option Stop
 judged texts None go = Some (at_bad texts)
-judged texts (Some line) go = if in_range line then go line else Some (at_big texts)
+judged texts (Some line) go =
+    if in_range line then (if is_shallow line then go line else Some (at_deep texts)) else Some (at_big texts)
 
 -- where the lines stop that are taken for some needs, if they do
 unfoldable pub verdict : List Need → List (List ℕ) → Option Stop

@@ -31,20 +31,20 @@ tree_score-score-requires-clause-few c =
     omega (arith, few, c.requires.vertices)
 
 pub returns-then-tree-cap : goal.returns-then-tree-cap
-returns-then-tree-cap c =
+returns-then-tree-cap c budget =
     let graph_is = ap (λ built. built.graph) c.built.view_is in
     let score_is : to_z w64 (of_z w64 c.tree.inside.score) ≡ c.tree.inside.score = search rules in
     let upper_is : to_z w64 (of_z w64 c.tree.inside.upper) ≡ c.tree.inside.upper = search rules in
     let computed_is = to_z-of_z w64 c.tree_score-score.result (record { sfits = c.tree_score-score.type_inv }) in
-    let cap_is = to_z-of_z w64 c.cap-cap.result (record { sfits = c.cap-cap.type_inv }) in
+    let cap_is : to_z w64 (of_z w64 c.in_ok-cap.cap) ≡ c.in_ok-cap.cap = search rules in
     let right : ScoreIsRight c.args.built.now c.args.tree.now =
     score_right c.args.built.now c.args.tree.now c.args.edges.now c.tree.inside.score c.tree_score-score.result c.requires.before
     c.requires.edges (ap (λ tree. tree.score) c.tree.view_is)
     (sym score_is ∙ ap (to_z w64) c.if-tree-score.false ∙ computed_is) (c.tree_score-score.ensures
     ∙ ap (λ graph. score_of graph c.args.edges.now) graph_is) in (
       right,
-      cap_is ∙ c.cap-cap.ensures ∙ ap (λ graph. cap_of graph (all_edges graph)) graph_is,
-      less-as _ _ (to_z w64 (of_z w64 c.cap-cap.result)) c.args.tree.now.upper refl (upper_is ∙ ap (λ tree. tree.upper) c.tree.view_is)
+      cap_is ∙ c.in_ok-cap.ensures ∙ ap (λ graph. cap_of graph (all_edges graph)) graph_is,
+      less-as _ _ (to_z w64 (of_z w64 c.in_ok-cap.cap)) c.args.tree.now.upper refl (upper_is ∙ ap (λ tree. tree.upper) c.tree.view_is)
           c.if-tree-cap.true,
     )
 
@@ -66,12 +66,12 @@ fits_as one other score upper its_score its_upper same equal bound = (
 )
 
 pub returns-then-not-fits_mark : goal.returns-then-not-fits_mark
-returns-then-not-fits_mark c =
+returns-then-not-fits_mark c budget =
     let graph_is = ap (λ built. built.graph) c.built.view_is in
     let score_is : to_z w64 (of_z w64 c.tree.inside.score) ≡ c.tree.inside.score = search rules in
     let upper_is : to_z w64 (of_z w64 c.tree.inside.upper) ≡ c.tree.inside.upper = search rules in
     let computed_is = to_z-of_z w64 c.tree_score-score.result (record { sfits = c.tree_score-score.type_inv }) in
-    let cap_is = to_z-of_z w64 c.cap-cap.result (record { sfits = c.cap-cap.type_inv }) in
+    let cap_is : to_z w64 (of_z w64 c.in_ok-cap.cap) ≡ c.in_ok-cap.cap = search rules in
     let right : ScoreIsRight c.args.built.now c.args.tree.now =
     score_right c.args.built.now c.args.tree.now c.args.edges.now c.tree.inside.score c.tree_score-score.result c.requires.before
     c.requires.edges (ap (λ tree. tree.score) c.tree.view_is)
@@ -81,9 +81,9 @@ returns-then-not-fits_mark c =
     (to_z w64 (of_z w64 c.tree.inside.upper)) c.args.tree.now.score c.args.tree.now.upper
     (ap (λ tree. tree.mark) c.tree.view_is) (score_is ∙ ap (λ tree. tree.score) c.tree.view_is)
     (upper_is ∙ ap (λ tree. tree.upper) c.tree.view_is) in (
-      capped_right c.args.built.now c.args.tree.now (to_z w64 (of_z w64 c.cap-cap.result)) (to_z w64 (of_z w64 c.tree.inside.upper))
-          c.cap-cap.result right
-          (upper_is ∙ ap (λ tree. tree.upper) c.tree.view_is) (c.cap-cap.ensures ∙ ap (λ graph. cap_of graph (all_edges graph)) graph_is)
+      capped_right c.args.built.now c.args.tree.now (to_z w64 (of_z w64 c.in_ok-cap.cap)) (to_z w64 (of_z w64 c.tree.inside.upper))
+          c.in_ok-cap.cap right
+          (upper_is ∙ ap (λ tree. tree.upper) c.tree.view_is) (c.in_ok-cap.ensures ∙ ap (λ graph. cap_of graph (all_edges graph)) graph_is)
           cap_is c.if-tree-cap.false,
       λ fits. false≢true (sym c.if-not-fits_mark.true ∙ c.fits_mark.ensures.1 (same_mark.1 fits)),
     )
@@ -94,7 +94,7 @@ returns c =
     let score_is : to_z w64 (of_z w64 c.tree.inside.score) ≡ c.tree.inside.score = search rules in
     let upper_is : to_z w64 (of_z w64 c.tree.inside.upper) ≡ c.tree.inside.upper = search rules in
     let computed_is = to_z-of_z w64 c.tree_score-score.result (record { sfits = c.tree_score-score.type_inv }) in
-    let cap_is = to_z-of_z w64 c.cap-cap.result (record { sfits = c.cap-cap.type_inv }) in
+    let cap_is : to_z w64 (of_z w64 c.in_ok-cap.cap) ≡ c.in_ok-cap.cap = search rules in
     let right : ScoreIsRight c.args.built.now c.args.tree.now =
     score_right c.args.built.now c.args.tree.now c.args.edges.now c.tree.inside.score c.tree_score-score.result c.requires.before
     c.requires.edges (ap (λ tree. tree.score) c.tree.view_is)
@@ -105,9 +105,9 @@ returns c =
     (ap (λ tree. tree.mark) c.tree.view_is) (score_is ∙ ap (λ tree. tree.score) c.tree.view_is)
     (upper_is ∙ ap (λ tree. tree.upper) c.tree.view_is) in
     record {
-      before = capped_right c.args.built.now c.args.tree.now (to_z w64 (of_z w64 c.cap-cap.result))
-          (to_z w64 (of_z w64 c.tree.inside.upper)) c.cap-cap.result right
-          (upper_is ∙ ap (λ tree. tree.upper) c.tree.view_is) (c.cap-cap.ensures ∙ ap (λ graph. cap_of graph (all_edges graph)) graph_is)
+      before = capped_right c.args.built.now c.args.tree.now (to_z w64 (of_z w64 c.in_ok-cap.cap))
+          (to_z w64 (of_z w64 c.tree.inside.upper)) c.in_ok-cap.cap right
+          (upper_is ∙ ap (λ tree. tree.upper) c.tree.view_is) (c.in_ok-cap.ensures ∙ ap (λ graph. cap_of graph (all_edges graph)) graph_is)
           cap_is c.if-tree-cap.false;
       mark = same_mark.0 (c.fits_mark.ensures.0 c.if-not-fits_mark.false);
     }

@@ -12,3 +12,9 @@ returns-in-TooBig c = rw c.in-TooBig.is
     (subst (λ (told : List ℕ). IfOk c.numbered-in-TooBig.result (λ line. line.items ≡ told))
     (ap (λ (rest : List ℕ). codes "document: line " ++ rest)
     (sym (append_assoc (decimal c.in-TooBig.number) (codes ": too big") (codes "\n")))) c.numbered-in-TooBig.ensures)
+
+pub returns-in-TooDeep : goal.returns-in-TooDeep
+returns-in-TooDeep c = rw c.in-TooDeep.is
+    (subst (λ (told : List ℕ). IfOk c.numbered-in-TooDeep.result (λ line. line.items ≡ told))
+    (ap (λ (rest : List ℕ). codes "document: line " ++ rest)
+    (sym (append_assoc (decimal c.in-TooDeep.number) (codes ": too deep") (codes "\n")))) c.numbered-in-TooDeep.ensures)

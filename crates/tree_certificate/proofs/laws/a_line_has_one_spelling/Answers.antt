@@ -3,7 +3,7 @@ use Rattle.tree_certificate.proofs.Running.{taken}
 use Rattle.tree_certificate.proofs.laws.a_line_has_one_spelling.Goals as goal
 
 pub returns : goal.returns
-returns c = λ need text line read near.
+returns c = λ need text line read near shallow.
     let known : Known = record {
       undone = c.reading_undoes_printing.ensures;
       read = c.a_read_formula_is_one.ensures;
@@ -13,5 +13,5 @@ returns c = λ need text line read near.
       text = c.a_kind_has_one_number_and_one_word.ensures.text;
       spelled = c.a_kind_has_one_number_and_one_word.ensures.spelled;
     } in
-    let is = taken known need text line read near in
+    let is = taken known need text line read near shallow in
     (is.text_is, is.good)

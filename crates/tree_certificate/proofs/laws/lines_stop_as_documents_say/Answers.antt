@@ -1,5 +1,5 @@
 use Rattle.tree_certificate.proofs.FieldKinds.{Known}
-use Rattle.tree_certificate.proofs.Refusing.{bad_line, bad_within, big_line, big_within, cut_short, past_end}
+use Rattle.tree_certificate.proofs.Refusing.{bad_line, bad_within, big_line, big_within, cut_short, deep_line, deep_within, past_end}
 use Rattle.tree_certificate.proofs.laws.lines_stop_as_documents_say.Goals as goal
 
 pub returns : goal.returns
@@ -13,4 +13,13 @@ returns c =
       text = c.a_kind_has_one_number_and_one_word.ensures.text;
       spelled = c.a_kind_has_one_number_and_one_word.ensures.spelled;
     } in
-    record { bad = bad_line known; big = big_line known; bad_within = bad_within known; big_within = big_within known; short = cut_short known; past_end = past_end known }
+    record {
+      bad = bad_line known;
+      big = big_line known;
+      deep = deep_line known;
+      bad_within = bad_within known;
+      big_within = big_within known;
+      deep_within = deep_within known;
+      short = cut_short known;
+      past_end = past_end known;
+    }

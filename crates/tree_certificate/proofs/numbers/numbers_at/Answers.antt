@@ -2,8 +2,9 @@ use Rattle.std.proofs.Common.{◌≡◌, ◌<◌, [], ◌∷◌, ◌++◌, ◌�
 use Rattle.std.proofs.lemmas.Int.{to_z-of_z}
 use Rattle.std.specs.Option.{option_map}
 use Rattle.std.proofs.lemmas.Bool.{cond-false, eqb-false}
-use Rattle.tree_certificate.specs.inside.Field.{numbers_at}
-use Rattle.tree_certificate.proofs.NumberLists.{no_number, one_number, shorter, small_next, so_far}
+use Rattle.tree_certificate.specs.inside.Field.{numbers_at, signed_kind}
+use Rattle.tree_certificate.proofs.NumberLists.{no_number, one_number, small_next}
+use Rattle.tree_certificate.proofs.TokenLists.{shorter, so_far}
 use Rattle.tree_certificate.proofs.numbers.numbers_at.Goals as goal
 
 pub returns-in_default : goal.returns-in_default
@@ -13,7 +14,7 @@ returns-in_default c =
     ∙ ap (option_map (λ later. c.loop-rest.numbers.items ++ later)) (no_number c.loop-rest.rest.now some c.in_default.ensures))
 
 pub loop-rest-smaller : goal.loop-rest-smaller
-loop-rest-smaller c = shorter c.loop-rest.rest.now c.in-Some.later.now c.in-Some.number c.in-Some.ensures
+loop-rest-smaller c = shorter (signed_kind 0) c.loop-rest.rest.now c.in-Some.later.now c.in-Some.number c.in-Some.ensures
 
 pub loop-rest-preserved : goal.loop-rest-preserved
 loop-rest-preserved c =

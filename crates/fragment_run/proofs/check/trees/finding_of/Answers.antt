@@ -19,12 +19,12 @@ use Rattle.fragment_run.proofs.check.trees.finding_of.Goals as goal
 wrong_tree : (settings : SolveSettingsValue) (lists : List FormulaListValue) (candidate : List ℕ) (outcome : Outcome)
     (built : LossGraphValue) (tree : TreeValue) (verdict : EntryVerdict) (place : EntryPlace) → outcome ≡ Tree tree
     → verdict ≡ Wrong place → built ≡ graph_of settings lists candidate → vertex_count_of settings lists candidate ≤ greatest_graph
-    → IsEntryVerdict built tree verdict
+    → IsEntryVerdict built tree settings.budget verdict
     → SizeIsRight settings lists candidate outcome × IsPlaceIn settings lists candidate outcome place
 wrong_tree settings lists candidate outcome built tree verdict place is_tree is_wrong is small told =
-    let here = subst (IsEntryVerdict built tree) is_wrong told in
+    let here = subst (IsEntryVerdict built tree settings.budget) is_wrong told in
     subst (λ outcome. SizeIsRight settings lists candidate outcome × IsPlaceIn settings lists candidate outcome place) (sym is_tree)
-    (small, subst (λ graph. IsEntryPlace graph tree place) is here)
+    (small, subst (λ graph. IsEntryPlace graph tree settings.budget place) is here)
 
 pub returns-in-Ok-Tree : goal.returns-in-Ok-Tree
 returns-in-Ok-Tree g c =

@@ -1,9 +1,12 @@
-use Rattle.std.proofs.Common.{arith, subst, sym}
+use Rattle.std.proofs.Common.{arith, refl, subst, sym}
+use Rattle.std.proofs.lemmas.Option.{slice_get_read}
 use Rattle.loss_graph.specs.Lists.{AreLists}
+use Rattle.tree_certificate.specs.Document.{IsSmallCert, OfOutcome}
 use Rattle.tree_certificate.specs.declared.entry.Entry.{Entry}
 use Rattle.fragment_run.specs.Candidates.{ion_of}
 use Rattle.fragment_run.specs.inside.CheckAnswers.{IsFinding}
 use Rattle.fragment_run.specs.inside.SettingsOf.{solve_settings_value_of}
+use Rattle.fragment_run.proofs.EachCert.{each_at}
 use Rattle.fragment_run.proofs.AreTreesAnswer.{answer_of_all, right_more, wrong_more, wrong_size}
 use Rattle.fragment_run.proofs.check.trees.trees_place.Goals as goal
 use Rattle.fragment_run.proofs.check.trees.trees_place.Goals.{in-Right, in-Tree}
@@ -15,6 +18,9 @@ finding_of-requires g c =
       lists = subst (λ (entry : Entry). AreLists settings.listing.choice (ion_of settings entry.candidate) c.args.lists.now)
           (sym c.index-entries-place.is)
           (c.requires.lists c.loop-place.place c.index-entries-place.result c.loop-place-test.true);
+      small = each_at (λ (entry : Entry). OfOutcome IsSmallCert entry.outcome) c.args.entries.now c.loop-place.place
+          c.index-entries-place.result c.requires.small
+          (slice_get_read c.args.entries.now _ _ c.index-entries-place.result refl c.loop-place-test.true c.index-entries-place.is);
     }
 
 pub returns-in-Size : goal.returns-in-Size

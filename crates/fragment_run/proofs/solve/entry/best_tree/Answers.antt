@@ -24,10 +24,10 @@ record IsSolved (graph : Graph) (edges : List ℕ) (table : List (List ℤ)) : T
   capped : score_of graph edges ≤ℤ cap_of graph (all_edges graph)
   holds : TableHolds graph table (score_of graph edges)
 
-right_entry : (built : LossGraphValue) (graph : Graph) (edges : List ℕ) (rows : List TreeRow) (table : List (List ℤ)) (score : ℤ)
+right_entry : (built : LossGraphValue) (graph : Graph) (edges : List ℕ) (rows : List TreeRow) (table : List (List ℤ)) (score : ℤ) (budget : ℕ)
     → graph ≡ built.graph → AreRows built rows → edges_of rows ≡ edges → IsSolved graph edges table → score ≡ score_of graph edges
-    → EntryIsRight built (record { score = score; upper = score; mark = Optimal; rows = rows; cert = a_table table })
-right_entry built graph edges rows table score same right are solved total = record {
+    → EntryIsRight built (record { score = score; upper = score; mark = Optimal; rows = rows; cert = a_table table }) budget
+right_entry built graph edges rows table score budget same right are solved total = record {
   rows = right;
   colourful = rw (← same, are) solved.best.colourful;
   maximal = rw (← same, are) solved.maximal;
@@ -44,13 +44,13 @@ bounded_by : (graph : Graph) (built : LossGraphValue) (edges : List ℕ) (score 
 bounded_by graph built edges score same best total = rw (← same, total) best.greatest
 
 pub returns-clause-entry : goal.returns-clause-entry
-returns-clause-entry c =
+returns-clause-entry c budget =
     let graph = c.built.inside.graph in
     let edges = c.in_ok-edges.edges.items in
     let found = c.in_ok-edges.ensures in
     let edges_are : edges_of c.of.result ≡ edges = ap edges_of c.of.ensures ∙ c.in_ok-rows.ensures.edges ∙ c.deref-2.ensures.value in
     let total : c.tree_score-score.result ≡ score_of graph edges = c.tree_score-score.ensures ∙ ap (score_of graph) c.deref.ensures.value in
-    right_entry c.args.built.now graph edges c.of.result _ _ (ap (λ built. built.graph) c.built.view_is)
+    right_entry c.args.built.now graph edges c.of.result _ _ budget (ap (λ built. built.graph) c.built.view_is)
     (rw c.of.ensures c.in_ok-rows.ensures.rows) edges_are
     (record { best = found.best; maximal = found.maximal; capped = found.capped; holds = found.holds })
     (to_z-of_z w64 c.tree_score-score.result (search (rules, ints)) ∙ total)
@@ -77,5 +77,5 @@ returns-clause-good c =
     let edges_are = c.in_ok-rows.ensures.edges ∙ c.deref-2.ensures.value in
     let rows : length c.of.result ≤ 512 =
     omega (arith, ap length c.of.ensures, ap length edges_are, length-map c.in_ok-rows.rows.items (λ (row : TreeRow). row.edge), c.in_ok-edges.ensures.few) in
-    tree_is_good built _ _ is_small (returns-clause-entry c) rows refl refl
+    tree_is_good built _ _ 0 is_small (returns-clause-entry c 0) rows refl refl
     (rw (← c.built.view_is) c.in_ok-edges.ensures.holds.fits) c.rows-numbers.ensures.numbers

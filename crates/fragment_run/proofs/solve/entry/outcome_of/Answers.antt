@@ -34,11 +34,11 @@ few_colours root lists built are is few =
 
 right_tree : (settings : SolveSettingsValue) (lists : List FormulaListValue) (candidate : List ℕ) (built : LossGraphValue)
     (tree : TreeValue) → built ≡ graph_of settings lists candidate
-    → EntryIsRight built tree → IsBounded built.graph (all_edges built.graph) tree.upper
-    → EntryIsRight (graph_of settings lists candidate) tree
+    → EntryIsRight built tree settings.budget → IsBounded built.graph (all_edges built.graph) tree.upper
+    → EntryIsRight (graph_of settings lists candidate) tree settings.budget
     × IsBounded (graph_of settings lists candidate).graph (all_edges (graph_of settings lists candidate).graph) tree.upper
 right_tree settings lists candidate built tree is entry bounded = (
-  subst (λ graph. EntryIsRight graph tree) is entry,
+  subst (λ graph. EntryIsRight graph tree settings.budget) is entry,
   subst (λ graph. IsBounded graph.graph (all_edges graph.graph) tree.upper) is bounded,
 )
 
@@ -56,5 +56,5 @@ pub returns-in_ok-best_tree-in-Ok-clause-right : goal.returns-in_ok-best_tree-in
 returns-in_ok-best_tree-in-Ok-clause-right g c = (
   c.in-Ok.ensures.small,
   right_tree (solve_settings_value_of c.args.settings.now) c.args.lists.now c.args.candidate.now c.in-Ok.built _
-      c.in-Ok.ensures.exactly c.in_ok-best_tree-in-Ok.ensures.entry c.in_ok-best_tree-in-Ok.ensures.bounded,
+      c.in-Ok.ensures.exactly (c.in_ok-best_tree-in-Ok.ensures.entry c.args.settings.now.budget) c.in_ok-best_tree-in-Ok.ensures.bounded,
 )

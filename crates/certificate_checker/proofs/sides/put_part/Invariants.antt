@@ -1,0 +1,10 @@
+use Rattle.std.proofs.Common.{◌≡◌, ◌<◌, ℕ, ◌||◌, length, take}
+use Rattle.colour_graph.specs.EdgeSet.{is_allowed, is_named}
+use Rattle.certificate_checker.proofs.sides.put_part.Given as goal
+
+abbrev pub invariant-loop-edge : goal.invariant-loop-edge
+invariant-loop-edge l = record {
+  long : length l.allowed ≡ length l.initial.allowed;
+  each : (edge : ℕ) → edge < length l.initial.allowed
+      → is_allowed l.allowed edge ≡ (is_allowed l.initial.allowed edge || is_named (take l.edge-index l.part) edge);
+}

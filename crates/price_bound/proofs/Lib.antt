@@ -1,0 +1,11 @@
+pub mod Numbers
+pub mod Greatest
+pub mod Totals
+pub mod Edges
+pub mod Gaining
+pub mod Adding
+pub mod Keeping
+pub mod LowPotentials
+pub mod Owning
+pub mod PlainTrees
+pub mod PlainPrices

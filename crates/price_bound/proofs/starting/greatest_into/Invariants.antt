@@ -1,0 +1,12 @@
+use Rattle.std.proofs.Common.{◌≤ℤ◌, pos}
+use Rattle.colour_graph.specs.Graph.{IsScore}
+use Rattle.price_bound.proofs.Edges.{IsInto, weight_at}
+use Rattle.price_bound.proofs.Greatest.{IsGreatest}
+use Rattle.price_bound.proofs.starting.greatest_into.Given as goal
+
+abbrev pub invariant-loop-place : goal.invariant-loop-place
+invariant-loop-place l = record {
+  greatest : IsGreatest (IsInto l.graph l.allowed l.colour) (weight_at l.graph) l.place l.most;
+  near : IsScore l.most;
+  not_below : pos 0 ≤ℤ l.most;
+}

@@ -1,0 +1,40 @@
+//! A bound by splits, whose ends are prices.
+ghost use Rattle.std.specs.Prelude.{◌≡◌, ◌≤◌, ◌<◌, ◌^◌};
+ghost use Rattle.tree_certificate.specs.BoundHolds.{depth_of, splits_of};
+ghost use Rattle.tree_certificate.specs.BoundView.{bound_value};
+
+use crate::prices::PriceCert;
+use sqlite_items::{Boxed, Items};
+
+/// What shows that no tree of a set of edges scores more than an upper bound.
+#[derive(Debug, Drop)]
+pub enum Bound {
+    /// Prices and potentials of the set.
+    Priced(PriceCert),
+    /// A colour and some of the set's edges into it, the bound of the set without the others into it, and that of the
+    /// set without these.
+    Split(u16, Items<u32>, Boxed<Bound>, Boxed<Bound>),
+}
+
+/// How many splits a bound has.
+pub fn splits(bound: &Bound) -> u64
+    requires depth { depth_of (bound_value bound.now) ≤ 1024 }
+    requires few { splits_of (bound_value bound.now) < 2 ^ 32 }
+    ensures { result ≡ splits_of (bound_value bound.now) }
+{
+    match bound {
+        Bound::Priced(_) => 0,
+        Bound::Split(_, _, first, second) => 1 + splits(first.get()) + splits(second.get()),
+    }
+}
+
+/// How many splits stand above the deepest prices of a bound.
+pub fn depth(bound: &Bound) -> u32
+    requires depth { depth_of (bound_value bound.now) ≤ 1024 }
+    ensures { result ≡ depth_of (bound_value bound.now) }
+{
+    match bound {
+        Bound::Priced(_) => 0,
+        Bound::Split(_, _, first, second) => 1 + depth(first.get()).max(depth(second.get())),
+    }
+}
