@@ -1,9 +1,11 @@
 -- Why a certificate does not hold: the first place, in the order of looking, where a condition fails.
-use Rattle.std.specs.Prelude.{◌≡◌, ◌<◌, ◌≤◌, ◌+◌, ◌⊎◌, ◌↔◌, ℕ, ℤ, pos, ◌<ℤ◌, ◌≤ℤ◌, Bool, true, List, ◌∷◌, length}
+use Rattle.std.specs.Prelude.{◌≡◌, ◌<◌, ◌≤◌, ◌+◌, ◌⊎◌, ◌↔◌, ℕ, ℤ}
+use Rattle.std.specs.Prelude.{pos, ◌<ℤ◌, ◌≤ℤ◌, Bool, true, List, ◌∷◌, length}
 use Rattle.colour_graph.specs.EdgeSet.{all_edges}
 use Rattle.colour_graph.specs.Graph.{Graph, colour_count, colour_of}
 use Rattle.tree_certificate.specs.CertHolds.{CertHolds}
-use Rattle.tree_certificate.specs.TableHolds.{FitsGraph, HasRow, IsHighAt, IsHighEnough, greatest_colours, number_at, place_in, row_length, table_total}
+use Rattle.tree_certificate.specs.TableHolds.{FitsGraph, HasRow, IsHighAt, IsHighEnough}
+use Rattle.tree_certificate.specs.TableHolds.{greatest_colours, number_at, place_in, row_length, table_total}
 use Rattle.tree_certificate.specs.Value.{CertValue, a_bound, a_table}
 use Rattle.certificate_checker.specs.BoundPlaces.{IsBoundPlace}
 use Rattle.certificate_checker.specs.declared.place.Place.{Place}

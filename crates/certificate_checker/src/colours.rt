@@ -1,6 +1,7 @@
 //! Which of the colours behind one matter for a vertex's numbers: in most graphs few do, and only these are walked over.
 ghost use Rattle.std.specs.Prelude.{◌≡◌, ◌≤ℤ◌, IsTrue, false, length};
-ghost use Rattle.certificate_checker.specs.inside.Enough.{AddsNothing, AreGainsBelow, AreNoGains, AreNumbersBelow, AreTelling, AreUseful, RaisesNothing};
+ghost use Rattle.certificate_checker.specs.inside.Enough.{AddsNothing, AreGainsBelow, AreNoGains};
+ghost use Rattle.certificate_checker.specs.inside.Enough.{AreNumbersBelow, AreTelling, AreUseful, RaisesNothing};
 
 /// The colours behind one that matter, each kind as the place of its set.
 #[derive(Clone, Copy)]

@@ -18,7 +18,7 @@ use tree_certificate::Mark::{Gap, Optimal};
 use tree_certificate::{Cert, Mark, TableCert, Tree, TreeRow, TreeRows};
 
 /// The formula of so many H, C, N and O.
-fn formula(h: u16, c: u16, n: u16, o: u16) -> Formula
+pub(crate) fn formula(h: u16, c: u16, n: u16, o: u16) -> Formula
     requires h { h ≤ greatest_count }
     requires c { c ≤ greatest_count }
     requires n { n ≤ greatest_count }
@@ -28,7 +28,7 @@ fn formula(h: u16, c: u16, n: u16, o: u16) -> Formula
 }
 
 /// A graph with the formulas of its vertices and the lists of its colours.
-fn built_of(
+pub(crate) fn built_of(
     graph: ColourGraph,
     formulas: Vec<Formula>,
     peaks: Vec<u16>,
@@ -129,7 +129,13 @@ fn row_of_caffeine(edge: u32) -> TreeRow {
 }
 
 /// A row of a tree, with its parent and its peak.
-fn row(edge: u32, places: (u16, u16), formula: Formula, loss: Formula, weight: i32) -> TreeRow {
+pub(crate) fn row(
+    edge: u32,
+    places: (u16, u16),
+    formula: Formula,
+    loss: Formula,
+    weight: i32,
+) -> TreeRow {
     TreeRow {
         edge,
         parent: places.0,

@@ -7,16 +7,19 @@ ghost use Rattle.colour_graph.specs.Graph.{IsScore};
 ghost use Rattle.tree_certificate.specs.BoundHolds.{depth_of, splits_of};
 ghost use Rattle.tree_certificate.specs.BoundView.{bound_value};
 
-use crate::EntryPlace::{Decided, Loose, Slack, Splits, Wasted};
+use crate::EntryPlace::{Decided, Loose, NotMaximal, Slack, Splits, Upper, Wasted};
+use crate::EntryVerdict::{Right, Wrong};
 use crate::bound::check_bound;
 use crate::bound_tests::{priced, split, trap};
+use crate::entry_tests::{built_of, formula, row};
 use crate::gap::wrong_gap;
-use crate::{EntryPlace, Verdict};
+use crate::{EntryPlace, EntryVerdict, Place, Verdict, check_entry};
 use colour_graph::{ColourGraph, GraphBuilder, VertexId};
+use loss_graph::LossGraph;
 use std::alloc::{AllocError, Global};
 use std::process::Abort;
 use std::test::Fail;
-use tree_certificate::Bound;
+use tree_certificate::{Bound, Cert, Mark, Tree, TreeRow, TreeRows};
 
 /// What is said of a gap, from a score to an upper bound, beside a bound that holds.
 fn said_of(
@@ -192,5 +195,73 @@ fn a_leaf_above_the_score_is_to_be_split(rt: HostRuntime) -> Result<(), Fail> {
         let said = said_of_decided(&rt, rt.alloc(), gap)?;
         assert_eq!(rt; said, expected);
     }
+    Ok(())
+}
+
+/// The star as the graph of 14 atoms of carbon, of which each vertex has lost as many as its number.
+fn carbon_star(alloc: Global) -> Result<LossGraph, Fail> {
+    let mut formulas = Vec::new(alloc);
+    let mut peaks = Vec::new(alloc);
+    for lost in 0..14u16 {
+        formulas.push(formula(0, 14 - lost, 0, 0))?;
+        if lost > 0 {
+            peaks.push(lost)?;
+        }
+    }
+    built_of(star(alloc)?, formulas, peaks)
+}
+
+/// The row of the edge from the root to a vertex.
+fn row_of_star(vertex: u16) -> TreeRow
+    requires not_root { 0 < vertex }
+    requires vertex { vertex < 14 }
+{
+    let number = u32::from(vertex);
+    row(
+        number * (number - 1) / 2,
+        (0, vertex),
+        formula(0, 14 - vertex, 0, 0),
+        formula(0, vertex, 0, 0),
+        weight_over(vertex),
+    )
+}
+
+/// What is said of the tree of the edges from the root to all vertices before one, with a score of 8 and a gap to an
+/// upper bound. Its leaf says 13.
+fn said_of_tree(
+    rt: &impl Abort,
+    alloc: Global,
+    past: u16,
+    upper: i64,
+    budget: u32,
+) -> Result<EntryVerdict, Fail>
+    requires { past ≤ 14 }
+{
+    let built = carbon_star(alloc)?;
+    assert!(rt; built.graph.vertex_count() <= 512);
+    let mut rows = Vec::new(alloc);
+    for vertex in 1..past {
+        rows.push(row_of_star(vertex))?;
+    }
+    let tree = Tree {
+        score: 8,
+        upper,
+        mark: Mark::Gap,
+        rows: TreeRows::of(rows),
+        cert: Cert::Bounds(priced(alloc, &[1; 13], &[0; 14])?),
+    };
+    Ok(check_entry(alloc, &built, &tree, budget)?)
+}
+
+#[test]
+fn a_tree_may_have_a_gap(rt: HostRuntime) -> Result<(), Fail> {
+    let alloc = rt.alloc();
+    assert_eq!(rt; said_of_tree(&rt, alloc, 14, 13, 0)?, Right);
+    assert_eq!(rt; said_of_tree(&rt, alloc, 14, 13, 1)?, Wrong(Splits(0)));
+    assert_eq!(rt; said_of_tree(&rt, alloc, 14, 14, 0)?, Wrong(Upper(13)));
+    let low = EntryPlace::Cert(Place::LeafTotal(0, 13));
+    assert_eq!(rt; said_of_tree(&rt, alloc, 14, 12, 0)?, Wrong(low));
+    // edge 83 is the least of weight 1 into the colour that is left
+    assert_eq!(rt; said_of_tree(&rt, alloc, 13, 13, 0)?, Wrong(NotMaximal(83)));
     Ok(())
 }

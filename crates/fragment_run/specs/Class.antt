@@ -3,7 +3,8 @@ use Rattle.std.specs.Prelude.{◌≢◌, ⊤}
 use Rattle.frag_io.specs.declared.desk.Slot.{Slot}
 use Rattle.frag_io.specs.declared.desk.Slot.TheVariants.{Profile, CertIn}
 use Rattle.fragment_run.specs.declared.status.Status.{Status}
-use Rattle.fragment_run.specs.declared.status.Status.TheVariants.{Done, Words, Memory, ReadFault, WriteFault, OpenFault, TooLong, MgfRefused, ProfileRefused, DocumentRefused, DocumentRejected}
+use Rattle.fragment_run.specs.declared.status.Status.TheVariants.{Done, Words, Memory, ReadFault, WriteFault}
+use Rattle.fragment_run.specs.declared.status.Status.TheVariants.{OpenFault, TooLong, MgfRefused, ProfileRefused, DocumentRefused, DocumentRejected}
 
 pub data Class : Type 0 where
   -- the words are no order

@@ -8,7 +8,8 @@ use Rattle.profile.specs.declared.fault.ProfileFault.{ProfileFault}
 use Rattle.profile.specs.declared.fault.ProfileFault.TheVariants.{NotToml, UnknownKey, BadValue, OverLimit, OutOfMemory}
 use Rattle.tree_certificate.specs.Title.{escaped}
 use Rattle.fragment_run.specs.declared.status.Status.{Status}
-use Rattle.fragment_run.specs.declared.status.Status.TheVariants.{Done, Words, Memory, ReadFault, WriteFault, OpenFault, TooLong, MgfRefused, ProfileRefused, DocumentRefused, DocumentRejected}
+use Rattle.fragment_run.specs.declared.status.Status.TheVariants.{Done, Words, Memory, ReadFault, WriteFault}
+use Rattle.fragment_run.specs.declared.status.Status.TheVariants.{OpenFault, TooLong, MgfRefused, ProfileRefused, DocumentRefused, DocumentRejected}
 use Rattle.tree_certificate.specs.declared.fault.CertFault.{CertFault}
 use Rattle.tree_certificate.specs.declared.fault.CertFault.TheVariants as cert
 use Rattle.fragment_run.specs.declared.reject.RejectPart.{RejectPart}

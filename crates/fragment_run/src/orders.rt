@@ -1,7 +1,8 @@
 //! The orders that words give: the commands, their options and what they name.
 ghost use Rattle.std.specs.Prelude.{◌≡◌, ◌∷◌, IfSome, MatchOption, Some, None, option_map};
 ghost use Rattle.std.specs.Option.{option_and_then, option_copied};
-ghost use Rattle.fragment_run.specs.Orders.{adduct_by, document_names_in, document_options, has_own_document, list, list_options, list_order_of, order_of, solve, solve_order_of, text_names_of};
+ghost use Rattle.fragment_run.specs.Orders.{adduct_by, document_names_in, document_options, has_own_document, list};
+ghost use Rattle.fragment_run.specs.Orders.{list_options, list_order_of, order_of, solve, solve_order_of, text_names_of};
 ghost use Rattle.fragment_run.specs.Words.{form_of, options_of, texts_of};
 ghost use Rattle.fragment_run.specs.inside.NamesOf.{document_names_of, names_of, order_read};
 ghost use Rattle.fragment_run.specs.inside.Words.{rows_of};

@@ -12,7 +12,8 @@ use Rattle.fragment_run.specs.Outline.{OutlineValue}
 use Rattle.fragment_run.specs.Outlined.{IsOutlined, Outlined}
 use Rattle.fragment_run.specs.RightSection.{BodyIsRight, OutcomeIsRight, SectionIsRight, SizeIsRight, SolvedIsRight}
 use Rattle.fragment_run.specs.SolveSettings.{SolveSettingsValue}
-use Rattle.fragment_run.specs.check.CheckPlaces.{IsBodyPlace, IsFirstWrong, IsPlaceIn, IsSectionPlace, IsSectionsPlace, IsSolvedPlace, IsTreePlace}
+use Rattle.fragment_run.specs.check.CheckPlaces.{IsBodyPlace, IsFirstWrong, IsPlaceIn}
+use Rattle.fragment_run.specs.check.CheckPlaces.{IsSectionPlace, IsSectionsPlace, IsSolvedPlace, IsTreePlace}
 use Rattle.fragment_run.specs.declared.check.trees.Finding.{Finding}
 use Rattle.fragment_run.specs.declared.check.trees.Finding.TheVariants as finding
 use Rattle.fragment_run.specs.declared.reject.RejectPart.{RejectPart}
