@@ -1,10 +1,12 @@
 -- The first whole line of a text, and its whole lines.
-use Rattle.std.proofs.Common.{◌≡◌, ◌<◌, ◌≤◌, ◌+◌, ◌-◌, ◌∙◌, ℕ, suc, Bool, true, false, not, cond, List, [], ◌∷◌, ◌++◌, length, take, drop, Option, Some, None, eqb, ltb, refl, sym, ap, arith}
+use Rattle.std.proofs.Common.{◌≡◌, ◌<◌, ◌≤◌, ◌+◌, ◌-◌, ◌∙◌, ℕ, suc, Bool, true, false, not, cond, List, [], ◌∷◌, ◌++◌, length, slice_index, take, drop, Option, Some, None, eqb, ltb, refl, sym, ap, arith}
 use Rattle.std.specs.List.{position, position_or_len}
 use Rattle.std.specs.Option.{option_map}
-use Rattle.std.proofs.lemmas.Bool.{cond-false, cond-true, eqb-false, eqb-true, lt-ltb, ltb-false, ltb-true}
+use Rattle.std.proofs.lemmas.Bool.{cond-false, cond-true, eqb-false, eqb-true, le-ltb, lt-ltb, ltb-false, ltb-true}
 use Rattle.std.proofs.lemmas.List.{length-append, take_rest}
+use Rattle.std.proofs.lemmas.List.Sums.{position_or_len_is}
 use Rattle.std.proofs.lemmas.Option.{none-some, same_Some, some_pair_parts}
+use Rattle.memchr.specs.Find.{IsFirstByte, Passes, is_byte}
 use Rattle.mgf_reader.specs.Text.{ended_lines, unfinished_line}
 use Rattle.tree_certificate.specs.inside.Cut.{cut_line, is_feed}
 
@@ -100,6 +102,25 @@ past_place (byte ∷ bytes) past = step (eqb byte 10) refl (past_place bytes) pa
         → length (byte ∷ bytes) ≤ cond (not b) (1 + position_or_len is_feed bytes) 0 → after byte bytes b ≡ None
     step true is later past = absurd (omega arith)
     step false is later past = ap (onto byte) (later (omega arith))
+
+-- a byte that is no line feed
+no_feed : (bytes : List ℕ) (place : ℕ) → ¬ Passes (is_byte 10) bytes place → is_feed (slice_index bytes place) ≡ false
+no_feed bytes place other = step (is_feed (slice_index bytes place)) refl
+  where
+    step : (b : Bool) → is_feed (slice_index bytes place) ≡ b → is_feed (slice_index bytes place) ≡ false
+    step true is = absurd (other is)
+    step false is = is
+
+-- The first line feed that a search finds is the first one.
+pub feed-found : (bytes : List ℕ) (place : Option ℕ) → IsFirstByte (is_byte 10) bytes place → place ≡ position is_feed bytes
+feed-found bytes None none =
+    let past : position_or_len is_feed bytes ≡ length bytes =
+    position_or_len_is is_feed bytes (length bytes) 0 (omega arith) (λ at before. no_feed bytes at (none at (omega arith) before)) (λ within. absurd (omega arith)) in
+    sym (cond-false (ltb (position_or_len is_feed bytes) (length bytes)) (Some (position_or_len is_feed bytes)) None (le-ltb _ _ (omega (arith, past))))
+feed-found bytes (Some place) found =
+    let here : position_or_len is_feed bytes ≡ place =
+    position_or_len_is is_feed bytes place 0 (omega (arith, found.0.high)) (λ at before. no_feed bytes at (found.0.before at (omega arith) before)) (λ within. found.1) in
+    sym (cond-true (ltb (position_or_len is_feed bytes) (length bytes)) (Some (position_or_len is_feed bytes)) None (lt-ltb _ _ (omega (arith, found.0.high))) ∙ ap Some here)
 
 -- by the place of the first line feed
 pub cut-found : (bytes : List ℕ) (end : ℕ) → Some end ≡ position is_feed bytes → Some (take end bytes, take (length bytes - (end + 1)) (drop (end + 1) bytes)) ≡ cut_line bytes

@@ -5,6 +5,8 @@ ghost use Rattle.std.specs.Option.{option_map};
 ghost use Rattle.mgf_reader.specs.Text.{ended_lines};
 ghost use Rattle.tree_certificate.specs.inside.Cut.{cut_line, is_feed};
 
+use memchr::memchr;
+
 /// The first whole line of some bytes without its line feed, and the rest behind that.
 pub fn next_line(bytes: &[u8]) -> Option<(&[u8], &[u8])>
     ensures { option_map (λ parts. (parts.0.now, parts.1.now)) result ≡ cut_line bytes.now }
@@ -20,7 +22,7 @@ fn first_feed(bytes: &[u8]) -> Option<usize>
     ensures place { result ≡ position is_feed bytes.now }
     ensures within { IfSome result (λ place. place < length bytes.now) }
 {
-    bytes.iter().position(|byte| *byte == b'\n')
+    memchr(b'\n', bytes)
 }
 
 /// How many whole lines some bytes have.
