@@ -8,7 +8,7 @@ use Rattle.element_table.specs.FormulaList.{FormulaListValue}
 use Rattle.loss_graph.specs.Lists.{ArePeakLists, IsList}
 use Rattle.mgf_reader.specs.Spectrum.{PeakValue}
 use Rattle.fragment_run.specs.Outline.{lists_of}
-use Rattle.fragment_run.specs.RunSettings.{RunSettingsValue, list_at}
+use Rattle.fragment_run.specs.RunSettings.{RunSettingsValue, list_of_ion}
 use Rattle.fragment_run.specs.inside.Outlines.{AreOwnLists}
 use Rattle.fragment_run.proofs.AllPairs.{AllPairs-map}
 
@@ -19,7 +19,7 @@ own_lists settings precursor peaks selected lists is each apart =
     subst (AreOwnLists settings.choice) (sym is) (of_these (subst (All (IsList settings.choice)) is each))
   where
     list_of : PeakValue → FormulaListValue
-    list_of peak = list_at settings peak.mz peak.intensity
+    list_of peak = list_of_ion settings peak.mz peak.intensity
 
     peak_lists : ArePeakLists settings.choice precursor (map list_of selected)
     peak_lists = record {

@@ -15,7 +15,7 @@ use Rattle.fragment_run.specs.Begins.{Begin, name_in, profile_begin}
 use Rattle.fragment_run.specs.Causes.{CauseOf}
 use Rattle.fragment_run.specs.Class.{Class, class_of, ended, refused, memory, open_fault, read_fault, too_long, IsAnswer, IsOfProfile}
 use Rattle.fragment_run.specs.Limits.{FitsLimit, greatest_text_of}
-use Rattle.fragment_run.specs.ProfilePromise.{OnlyProfile, ProfilePromise, outcome_of}
+use Rattle.fragment_run.specs.ProfilePromise.{OnlyProfile, ProfilePromise, profile_outcome}
 use Rattle.fragment_run.specs.inside.ProfileTaken.{IsTaken, refusal_of}
 use Rattle.fragment_run.specs.inside.Running.{Ends, IsOpenAnswer, IsReadAnswer}
 use Rattle.fragment_run.specs.declared.status.Status.{Status}
@@ -54,7 +54,7 @@ not_both profile fault outcome one other = cc
 
 -- a refused text of a profile that is named
 pub named_outcome : (gives : List ℕ → Option (List ℕ)) (name : Option (List ℕ)) (text : List ℕ) (fault : ProfileFault)
-    → option_and_then gives name ≡ Some text → profile_of text ≡ Err fault → outcome_of gives name ≡ Some (Err fault)
+    → option_and_then gives name ≡ Some text → profile_of text ≡ Err fault → profile_outcome gives name ≡ Some (Err fault)
 named_outcome gives None text fault told barred = cc
 named_outcome gives (Some name) text fault told barred = ap (option_map profile_of) told ∙ ap Some barred
 
@@ -186,7 +186,7 @@ refusal_promise name before now fault bytes ends only text barred =
 -- a profile that is not refused is not answered by a refusal
 pub accepted_profile : (name : List ℕ) (before now : DeskState) (status : Status) (profile : ProfileValue)
     → ProfilePromise (Some name) before now status → (class_of status ≡ memory) ⊎ IsOfProfile (class_of status)
-    → outcome_of before.gives (Some name) ≡ Some (Ok profile) → IsAnswer (class_of status) → ⊥
+    → profile_outcome before.gives (Some name) ≡ Some (Ok profile) → IsAnswer (class_of status) → ⊥
 accepted_profile name before now status profile promise own is answer = elim own [
   | inl no_memory ↦ subst IsAnswer no_memory answer
   | inr of ↦ by_class (class_of status) refl of answer

@@ -10,7 +10,7 @@ use Rattle.fragment_run.specs.Causes.{IsUnwritten}
 use Rattle.fragment_run.specs.Class.{Class, class_of, no_order, ended, refused, memory, open_fault, read_fault, write_fault, too_long, IsAnswer, IsOfProfile, StopsEarly}
 use Rattle.fragment_run.specs.Leaves.{Meaning}
 use Rattle.fragment_run.specs.Limits.{greatest_text_of}
-use Rattle.fragment_run.specs.ProfilePromise.{outcome_of}
+use Rattle.fragment_run.specs.ProfilePromise.{profile_outcome}
 use Rattle.fragment_run.specs.TextPromise.{IsFormedFirst, OwesText, TextPromise}
 use Rattle.fragment_run.specs.inside.ProfileTaken.{IsTaken}
 use Rattle.fragment_run.specs.inside.TextSteps.{IsTextStop, IsWriteStop}
@@ -113,7 +113,7 @@ answered_owes meaning text now status is right = record {
 pub stopped_text : (meaning : ProfileValue → List ℕ → Meaning) (profile_name : Option (List ℕ)) (name : List ℕ) (before now : DeskState)
     (status : Status) → IsUnwritten now
     → (class_of status ≡ memory) ⊎ IsOfProfile (class_of status)
-    → ((profile : ProfileValue) → outcome_of before.gives profile_name ≡ Some (Ok profile) → IsAnswer (class_of status) → ⊥)
+    → ((profile : ProfileValue) → profile_outcome before.gives profile_name ≡ Some (Ok profile) → IsAnswer (class_of status) → ⊥)
     → TextPromise meaning profile_name name before now status
 stopped_text meaning profile_name name before now status unwritten own accepted = λ profile is.
     at_some (before.gives name) (λ text. OwesText (meaning profile text) text now status) (λ text told.
@@ -122,7 +122,7 @@ stopped_text meaning profile_name name before now status unwritten own accepted 
 -- what holds of a profile that was taken holds of the one that is told
 pub taken_for : (P : ProfileValue → Type 0) (gives : List ℕ → Option (List ℕ)) (profile_name : Option (List ℕ)) (profile : ProfileValue)
     → IsTaken gives profile_name profile → P profile
-    → (told : ProfileValue) → outcome_of gives profile_name ≡ Some (Ok told) → P told
+    → (told : ProfileValue) → profile_outcome gives profile_name ≡ Some (Ok told) → P told
 taken_for P gives profile_name profile taken holds told is = subst P (same_profile profile told (taken (Ok told) is)) holds
   where
     the_outcome : ProfileValue → Result ProfileValue ProfileFault

@@ -8,7 +8,7 @@ use Rattle.adducts.specs.declared.outcome.Fit.TheVariants as Found
 use Rattle.adducts.specs.Selected.{Selected}
 use Rattle.tree_certificate.specs.declared.document.Skip.{Skip}
 use Rattle.tree_certificate.specs.declared.document.Skip.TheVariants.{NoPrecursor, Charge, Range, TooMany}
-use Rattle.fragment_run.specs.RunSettings.{RunSettingsValue, has_too_many, list_at}
+use Rattle.fragment_run.specs.RunSettings.{RunSettingsValue, has_too_many, list_of_ion}
 
 -- what stands of a spectrum: why it was skipped, or its lists, the precursor's first
 pub data OutlineValue : Type 0 where
@@ -22,7 +22,7 @@ mzs_of precursor selected = precursor ∷ map (λ peak. peak.mz) selected
 -- the lists of a spectrum: the precursor's, which has the intensity 0, then those of the selected peaks
 abbrev pub lists_of : RunSettingsValue → ℕ → List PeakValue → List FormulaListValue
 lists_of settings precursor selected =
-    list_at settings precursor 0 ∷ map (λ peak. list_at settings peak.mz peak.intensity) selected
+    list_of_ion settings precursor 0 ∷ map (λ peak. list_of_ion settings peak.mz peak.intensity) selected
 
 -- what stands of the lists, where the first that has too many formulas is known
 abbrev pub outline_with : Option ℕ → List FormulaListValue → OutlineValue

@@ -14,9 +14,9 @@ use Rattle.fragment_run.specs.declared.status.Status.{Status}
 use Rattle.fragment_run.specs.declared.status.Status.TheVariants.{ProfileRefused}
 
 -- The profile of a run, or why its text is refused, where the desk tells it: the default one where no text is named.
-abbrev pub outcome_of : (List ℕ → Option (List ℕ)) → Option (List ℕ) → Option (Result ProfileValue ProfileFault)
-outcome_of gives None = Some (Ok default_profile_value)
-outcome_of gives (Some name) = option_map profile_of (gives name)
+abbrev pub profile_outcome : (List ℕ → Option (List ℕ)) → Option (List ℕ) → Option (Result ProfileValue ProfileFault)
+profile_outcome gives None = Some (Ok default_profile_value)
+profile_outcome gives (Some name) = option_map profile_of (gives name)
 
 -- no slot was begun but that of the profile
 abbrev pub OnlyProfile : DeskState → Type 0
@@ -29,8 +29,8 @@ pub record ProfilePromise (name : Option (List ℕ)) (before now : DeskState) (s
   pub refusal : (fault : ProfileFault) → status ≡ ProfileRefused fault
       → (fault ≢ OutOfMemory) × IfSome (option_and_then before.gives name) (λ text. profile_of text ≡ Err fault)
   pub alone : IsOfProfile (class_of status) → OnlyProfile now
-  pub unused : (fault : ProfileFault) → outcome_of before.gives name ≡ Some (Err fault) → OnlyProfile now
-  pub stops : (fault : ProfileFault) → outcome_of before.gives name ≡ Some (Err fault)
+  pub unused : (fault : ProfileFault) → profile_outcome before.gives name ≡ Some (Err fault) → OnlyProfile now
+  pub stops : (fault : ProfileFault) → profile_outcome before.gives name ≡ Some (Err fault)
       → (class_of status ≡ memory) ⊎ IsOfProfile (class_of status)
   pub refuses : (text : List ℕ) (fault : ProfileFault) → option_and_then before.gives name ≡ Some text
       → length text ≤ greatest_text_of Profile → profile_of text ≡ Err fault → (IsCounted Profile before now → ⊥)

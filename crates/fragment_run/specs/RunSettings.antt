@@ -35,6 +35,6 @@ formulas_at settings mz = listed_of (window_at settings mz) settings.limits sett
 abbrev pub has_too_many : RunSettingsValue → ℕ → Bool
 has_too_many settings mz = nat_lt greatest_list (length (formulas_at settings mz))
 
--- the list of a peak, with its m/z and its intensity
-abbrev pub list_at : RunSettingsValue → ℕ → ℕ → FormulaListValue
-list_at settings mz intensity = record { mz = mz; intensity = intensity; formulas = formulas_at settings mz }
+-- the list of an ion, with its m/z and its intensity
+abbrev pub list_of_ion : RunSettingsValue → ℕ → ℕ → FormulaListValue
+list_of_ion settings mz intensity = record { mz = mz; intensity = intensity; formulas = formulas_at settings mz }

@@ -7,7 +7,7 @@ use Rattle.fragment_run.specs.Causes.{IsUnwritten}
 use Rattle.fragment_run.specs.Class.{Class, class_of, read_fault, write_fault, too_long}
 use Rattle.fragment_run.specs.Leaves.{Leaves, Meaning}
 use Rattle.fragment_run.specs.Limits.{greatest_text_of}
-use Rattle.fragment_run.specs.ProfilePromise.{outcome_of}
+use Rattle.fragment_run.specs.ProfilePromise.{profile_outcome}
 use Rattle.fragment_run.specs.declared.status.Status.{Status}
 
 -- All that a text means is formed, from a text that was read whole, before its first byte is written.
@@ -29,5 +29,5 @@ pub record OwesText (meaning : Meaning) (text : List ℕ) (now : DeskState) (sta
 abbrev pub TextPromise : (ProfileValue → List ℕ → Meaning) → Option (List ℕ) → List ℕ → DeskState → DeskState → Status
     → Type 0
 TextPromise meaning profile_name name before now status =
-    (profile : ProfileValue) → outcome_of before.gives profile_name ≡ Some (Ok profile)
+    (profile : ProfileValue) → profile_outcome before.gives profile_name ≡ Some (Ok profile)
     → IfSome (before.gives name) (λ text. OwesText (meaning profile text) text now status)

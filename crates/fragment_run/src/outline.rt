@@ -6,7 +6,7 @@ ghost use Rattle.adducts.specs.Selected.{StandApart};
 ghost use Rattle.loss_graph.specs.Lists.{IsList};
 ghost use Rattle.mgf_reader.specs.Spectrum.{PeakValue};
 ghost use Rattle.fragment_run.specs.Outline.{IsOutline, explained};
-ghost use Rattle.fragment_run.specs.RunSettings.{has_too_many, list_at, window_at};
+ghost use Rattle.fragment_run.specs.RunSettings.{has_too_many, list_of_ion, window_at};
 ghost use Rattle.fragment_run.specs.inside.GoodLines.{HasGoodReason};
 ghost use Rattle.fragment_run.specs.inside.Outlines.{HasOwnLists, outline_of};
 ghost use Rattle.fragment_run.specs.inside.SettingsOf.{settings_value_of};
@@ -93,9 +93,9 @@ fn add_list(
     requires counted { intensity ≤ 10 ^ 18 }
     ensures told { IfOk result (λ added. added ≡ not (has_too_many (settings_value_of settings.now) mz)) }
     ensures lists { result ≡ Ok true
-        → lists.new.items ≡ lists.old.items ++ list_at (settings_value_of settings.now) mz intensity ∷ [] }
+        → lists.new.items ≡ lists.old.items ++ list_of_ion (settings_value_of settings.now) mz intensity ∷ [] }
     ensures list { result ≡ Ok true
-        → IsList settings.now.choice (list_at (settings_value_of settings.now) mz intensity) }
+        → IsList settings.now.choice (list_of_ion (settings_value_of settings.now) mz intensity) }
 {
     match list(
         alloc,

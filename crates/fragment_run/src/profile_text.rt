@@ -7,7 +7,7 @@ ghost use Rattle.fragment_run.specs.Begins.{Begin, profile_begin};
 ghost use Rattle.fragment_run.specs.Causes.{IsUnwritten};
 ghost use Rattle.fragment_run.specs.Class.{class_of, memory, IsAnswer, IsOfProfile};
 ghost use Rattle.fragment_run.specs.Limits.{AreReadWhole};
-ghost use Rattle.fragment_run.specs.ProfilePromise.{OnlyProfile, ProfilePromise, outcome_of};
+ghost use Rattle.fragment_run.specs.ProfilePromise.{OnlyProfile, ProfilePromise, profile_outcome};
 ghost use Rattle.fragment_run.specs.inside.ProfileTaken.{IsTaken, refusal_of};
 ghost use Rattle.fragment_run.specs.inside.Running.{Ends, Runs};
 
@@ -36,7 +36,7 @@ pub fn take_profile<D: Desk>(
         (D.state desk.new)) }
     ensures own { IfErr result (λ status. (class_of status ≡ memory) ⊎ IsOfProfile (class_of status)) }
     ensures accepted { IfErr result (λ status. (profile : ProfileValue)
-        → outcome_of (D.state desk.old).gives (option_map (λ name. name.now) name.entry) ≡ Some (Ok profile)
+        → profile_outcome (D.state desk.old).gives (option_map (λ name. name.now) name.entry) ≡ Some (Ok profile)
         → IsAnswer (class_of status) → ⊥) }
     ensures only { OnlyProfile (D.state desk.new) }
     ensures finished { Same (D.state desk.old).finished (D.state desk.new).finished }
@@ -59,7 +59,7 @@ fn read_named<D: Desk>(alloc: Global, name: &str, desk: &mut D) -> Result<Profil
     ensures promise { IfErr result (ProfilePromise (Some name.now) (D.state desk.old) (D.state desk.new)) }
     ensures own { IfErr result (λ status. (class_of status ≡ memory) ⊎ IsOfProfile (class_of status)) }
     ensures accepted { IfErr result (λ status. (profile : ProfileValue)
-        → outcome_of (D.state desk.old).gives (Some name.now) ≡ Some (Ok profile) → IsAnswer (class_of status) → ⊥) }
+        → profile_outcome (D.state desk.old).gives (Some name.now) ≡ Some (Ok profile) → IsAnswer (class_of status) → ⊥) }
     ensures only { OnlyProfile (D.state desk.new) }
     ensures finished { Same (D.state desk.old).finished (D.state desk.new).finished }
     ensures unwritten { IsUnwritten (D.state desk.old) → IsUnwritten (D.state desk.new) }

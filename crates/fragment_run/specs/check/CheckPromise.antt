@@ -12,7 +12,7 @@ use Rattle.tree_certificate.specs.declared.fault.CertFault.{CertFault}
 use Rattle.tree_certificate.specs.declared.fault.CertFault.TheVariants.{OutOfMemory}
 use Rattle.fragment_run.specs.Leaves.{Meaning}
 use Rattle.fragment_run.specs.Orders.{DocumentNames}
-use Rattle.fragment_run.specs.ProfilePromise.{outcome_of}
+use Rattle.fragment_run.specs.ProfilePromise.{profile_outcome}
 use Rattle.fragment_run.specs.RightDocument.{DocumentIsRight, IsPrefix}
 use Rattle.fragment_run.specs.SolveSettings.{SolveSettingsValue, solve_settings_of}
 use Rattle.fragment_run.specs.TextPromise.{OwesText}
@@ -87,6 +87,6 @@ check_meaning settings text bytes = record {
 -- that is not refused, to a text and to the bytes of a document that the names give.
 pub record CheckPromise (names : DocumentNames) (before now : DeskState) (status : Status) : Type 0 where
   pub refusal : (fault : CertFault) → status ≡ DocumentRefused fault → fault ≢ OutOfMemory
-  pub texts : (profile : ProfileValue) → outcome_of before.gives names.profile ≡ Some (Ok profile)
+  pub texts : (profile : ProfileValue) → profile_outcome before.gives names.profile ≡ Some (Ok profile)
       → IfSome (before.gives names.spectra) (λ text. IfSome (before.gives names.document) (λ bytes.
       OwesText (check_meaning (solve_settings_of profile names.adduct) text bytes) text now status))

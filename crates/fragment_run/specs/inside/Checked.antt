@@ -14,10 +14,10 @@ use Rattle.fragment_run.specs.declared.status.Status.TheVariants.{DocumentRefuse
 use Rattle.fragment_run.specs.declared.check.document.Checked.{Checked}
 use Rattle.fragment_run.specs.declared.check.document.Checked.TheVariants.{Refused, Rejected, Accepted}
 
-abbrev pub outcome_of : Checked → CheckOutcome
-outcome_of (Refused fault) = refused fault
-outcome_of (Rejected place) = rejected place
-outcome_of (Accepted count fault) = accepted count fault
+abbrev pub check_outcome : Checked → CheckOutcome
+check_outcome (Refused fault) = refused fault
+check_outcome (Rejected place) = rejected place
+check_outcome (Accepted count fault) = accepted count fault
 
 -- what is answered of a document that was read
 abbrev pub IsComparison : SolveSettingsValue → List ℕ → Document → Checked → Type 0

@@ -6,7 +6,7 @@ ghost use Rattle.tree_certificate.specs.Document.{EachCert, IsSmallCert, OfBody}
 ghost use Rattle.fragment_run.specs.Limits.{greatest_text_of};
 ghost use Rattle.fragment_run.specs.check.CheckPromise.{IsOutcome};
 ghost use Rattle.fragment_run.specs.inside.CheckAnswers.{AreSectionsAnswer};
-ghost use Rattle.fragment_run.specs.inside.Checked.{IsComparison, outcome_of};
+ghost use Rattle.fragment_run.specs.inside.Checked.{IsComparison, check_outcome};
 ghost use Rattle.fragment_run.specs.inside.SettingsOf.{solve_settings_value_of};
 
 use crate::check::section::section_place;
@@ -39,7 +39,7 @@ pub fn check_text(
     requires document { length bytes.now ≤ greatest_text_of CertIn }
     requires peaks { settings.now.listing.choice.peaks ≤ 40 }
     ensures { IfOk result (λ checked.
-        IsOutcome (solve_settings_value_of settings.now) text.now bytes.now (outcome_of checked)) }
+        IsOutcome (solve_settings_value_of settings.now) text.now bytes.now (check_outcome checked)) }
 {
     match read_document(alloc, bytes) {
         Ok(document) => compare(alloc, text, &document, settings),

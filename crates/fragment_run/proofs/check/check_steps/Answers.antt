@@ -6,7 +6,7 @@ use Rattle.fragment_run.specs.Begins.{Begin}
 use Rattle.fragment_run.specs.Limits.{greatest_text_of}
 use Rattle.fragment_run.specs.Orders.{read_begin, text_begins}
 use Rattle.fragment_run.specs.check.CheckPromise.{IsOutcome}
-use Rattle.fragment_run.specs.inside.Checked.{outcome_of}
+use Rattle.fragment_run.specs.inside.Checked.{check_outcome}
 use Rattle.fragment_run.specs.inside.SettingsOf.{solve_settings_value_of}
 use Rattle.fragment_run.specs.declared.check.document.Checked.{Checked}
 use Rattle.fragment_run.specs.declared.status.Status.TheVariants.{DocumentRefused, DocumentRejected}
@@ -94,4 +94,4 @@ returns-clause-texts g c =
     (subst (λ (t : List ℕ). length t ≤ greatest_text_of Spectra) (sym is) c.in_ok-text.ensures.short)
     (rw (is ∙ sym c.deref.ensures.value, is_bytes ∙ sym c.deref-2.ensures.value)
     (subst (λ (checked : Checked). IsOutcome (solve_settings_value_of c.args.settings.now) c.deref.result.now c.deref-2.result.now
-    (outcome_of checked)) c.in-Accepted.is c.in_ok-fault.ensures))))
+    (check_outcome checked)) c.in-Accepted.is c.in_ok-fault.ensures))))
