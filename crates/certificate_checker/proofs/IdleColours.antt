@@ -7,15 +7,6 @@ use Rattle.tree_certificate.proofs.SetParts.{place-without}
 use Rattle.certificate_checker.specs.inside.Enough.{AreTelling, IsEnough, RaisesNothing, number_in}
 use Rattle.certificate_checker.proofs.MarkedColours.{AreMarked, cut, cut-none, cut-part, has, in_place, kept, marked-place, place-cut}
 
--- one place more
-pub raises_nothing-more : (numbers : List ℤ) (place colour : ℕ) → RaisesNothing numbers place colour
-    → (0 < bit_and place colour → number_in numbers place ≤ℤ number_in numbers (place - colour)) → RaisesNothing numbers (place + 1) colour
-raises_nothing-more numbers place colour before here p within room some = choose (cases_eq p place)
-  where
-    choose : (p ≡ place) ⊎ (p ≡ place → ⊥) → number_in numbers p ≤ℤ number_in numbers (p - colour)
-    choose (inl same) = rw same (here (rw same at some))
-    choose (inr apart) = before p (omega (arith, within, apart)) room some
-
 -- the number for a set is no greater than the one without the colour
 no_greater : (numbers : List ℤ) (count colour : ℕ) (set : List Bool) → RaisesNothing numbers count (2 ^ colour) → place_of set < count
     → number_in numbers (place_of set) ≤ℤ number_in numbers (place_of (cut colour set))
@@ -31,7 +22,7 @@ no_greater numbers count colour set raises within = choose (has colour set) refl
     choose true here =
         let less = place-cut colour set here in
         subst (λ p. number_in numbers (place_of set) ≤ℤ number_in numbers p) (next (place_of set) (place_of (cut colour set)) (2 ^ colour) less)
-        (raises (place_of set) within (omega (arith, less)) (in_place colour set here))
+        (raises (place_of set) within (in_place colour set here))
     choose false other = same _ _ (ap (λ s. number_in numbers (place_of s)) (sym (cut-none colour set other)))
 
 without-cut : (colour : ℕ) (set part : List Bool) → without (cut colour set) (cut colour part) ≡ cut colour (without set part)

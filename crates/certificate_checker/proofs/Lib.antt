@@ -1,4 +1,5 @@
 mod PartWalk
+mod HasColour
 mod MarkedColours
 mod UsefulColours
 mod IdleColours

@@ -2,10 +2,11 @@
 use Rattle.std.proofs.Common.{◌≡◌, ◌+◌, ◌*◌, ◌/◌, ◌%◌, ◌^◌, ◌<◌, ◌≤◌, ℕ, zero, suc, Bool, true, false, ◌&&◌, IsTrue, List, [], ◌∷◌, ◌++◌, length, ap, refl, sym, subst, ◌∙◌, arith, bit_and, pow-suc}
 use Rattle.std.specs.Int.{bit_at}
 use Rattle.std.specs.Int.Bits.{and_zero_l, and_zero_r}
-use Rattle.std.proofs.lemmas.Nat.{and_block, pow_pos}
-use Rattle.std.proofs.lemmas.Nat.Bits.{and_pow, bit_at-suc, bit_at_lowest}
+use Rattle.std.proofs.lemmas.Nat.{and_block}
+use Rattle.std.proofs.lemmas.Nat.Bits.{bit_at-suc, bit_at_lowest}
 use Rattle.tree_certificate.specs.ColourSet.{IsPartOf, place_of, without}
 use Rattle.tree_certificate.proofs.SetParts.{IsPartOf-self}
+use Rattle.certificate_checker.specs.inside.Enough.{HasColour}
 
 -- whether a set has the colour with so many before it, and the set without it
 abbrev pub has : ℕ → List Bool → Bool
@@ -30,24 +31,24 @@ cut-none colour [] is = refl
 cut-none zero (here ∷ set) is = ap (λ b. b ∷ set) (sym is)
 cut-none (suc colour) (here ∷ set) is = ap (λ s. here ∷ s) (cut-none colour set is)
 
-bit-of : (colour : ℕ) (set : List Bool) → has colour set ≡ true → bit_at (place_of set) colour ≡ 1
-bit-of colour [] is = (cc)
-bit-of zero (true ∷ set) is = bit_at_lowest (place_of (true ∷ set)) ∙ odd (place_of set)
+-- a set with the colour, by its place
+pub in_place : (colour : ℕ) (set : List Bool) → has colour set ≡ true → HasColour (place_of set) (2 ^ colour)
+in_place colour [] is = (cc)
+in_place zero (true ∷ set) is = bit_at_lowest (place_of (true ∷ set)) ∙ odd (place_of set)
   where
     odd : (n : ℕ) → (1 + 2 * n) % 2 ≡ 1
     odd n = omega arith
-bit-of zero (false ∷ set) is = (cc)
-bit-of (suc colour) (true ∷ set) is = bit_at-suc (place_of (true ∷ set)) colour ∙ ap (λ n. bit_at n colour) (half (place_of set)) ∙ bit-of colour set is
+in_place zero (false ∷ set) is = (cc)
+in_place (suc colour) (true ∷ set) is =
+    bit_at-suc (place_of (true ∷ set)) colour ∙ ap (λ n. bit_at n colour) (half (place_of set)) ∙ in_place colour set is
   where
     half : (n : ℕ) → (1 + 2 * n) / 2 ≡ n
     half n = omega arith
-bit-of (suc colour) (false ∷ set) is = bit_at-suc (place_of (false ∷ set)) colour ∙ ap (λ n. bit_at n colour) (half (place_of set)) ∙ bit-of colour set is
+in_place (suc colour) (false ∷ set) is =
+    bit_at-suc (place_of (false ∷ set)) colour ∙ ap (λ n. bit_at n colour) (half (place_of set)) ∙ in_place colour set is
   where
     half : (n : ℕ) → (2 * n) / 2 ≡ n
     half n = omega arith
-
-pub in_place : (colour : ℕ) (set : List Bool) → has colour set ≡ true → 0 < bit_and (place_of set) (2 ^ colour)
-in_place colour set is = rw (and_pow (place_of set) colour, bit-of colour set is) (omega (arith, pow_pos colour))
 
 pub true_is_yes : IsTrue true
 true_is_yes = refl

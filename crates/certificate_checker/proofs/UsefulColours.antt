@@ -1,11 +1,11 @@
 -- Which colours of a set a head may need: of each colour that adds nothing, none does.
-use Rattle.std.proofs.Common.{◌≡◌, ◌⊎◌, inl, inr, ◌+◌, ◌-◌, ◌^◌, ◌<◌, ◌≤◌, ℕ, ℤ, ◌+ℤ◌, ◌≤ℤ◌, Bool, true, false, List, length, refl, sym, subst, ◌∙◌, arith, bit_and}
+use Rattle.std.proofs.Common.{◌≡◌, ◌⊎◌, inl, inr, ◌+◌, ◌-◌, ◌^◌, ◌<◌, ◌≤◌, ℕ, ℤ, ◌+ℤ◌, ◌≤ℤ◌, Bool, true, false, List, length, refl, sym, subst, ◌∙◌, arith}
 use Rattle.std.specs.Int.Bits.{and_zero_r}
 use Rattle.std.proofs.lemmas.Bool.{cases_eq}
 use Rattle.std.proofs.lemmas.Int.{ints}
 use Rattle.tree_certificate.specs.ColourSet.{IsPartOf, place_of, without}
 use Rattle.tree_certificate.proofs.SetParts.{IsPartOf-nothing, nothing_of, place-nothing, place-without}
-use Rattle.certificate_checker.specs.inside.Enough.{AddsNothing, AreNoGains, AreNumbersBelow, AreUseful, IsEnough, IsEnoughOf, number_in}
+use Rattle.certificate_checker.specs.inside.Enough.{AddsNothing, AddsNothingFrom, AddsNothingTo, AreNoGains, AreNumbersBelow, AreUseful, IsEnough, IsEnoughOf, number_in}
 use Rattle.certificate_checker.proofs.MarkedColours.{AreMarked, IsPartOf-kept, cut, cut-none, cut-part, has, has-left, in_place, kept, marked-place, part-cut, place-cut}
 use Rattle.certificate_checker.proofs.PartWalk.{IsPartOf-part, enough-none}
 
@@ -18,8 +18,9 @@ no_less own gains colour set part adds within is taken_is =
     let whole = place-without set part is in
     let other = place-without set (cut colour part) cut_is in
     let less = place-cut colour part taken_is in
-    let gained = (adds (place_of part) (omega (arith, whole, within)) (omega (arith, less)) (in_place colour part taken_is)).0 in
-    let left = (adds (place_of (without set (cut colour part))) (omega (arith, other, within)) (omega (arith, whole, other, less)) (in_place colour (without set (cut colour part)) (has-left colour part set is taken_is))).1 in
+    let gained = (adds (place_of part) (omega (arith, whole, within)) (in_place colour part taken_is)).0 in
+    let there = in_place colour (without set (cut colour part)) (has-left colour part set is taken_is) in
+    let left = (adds (place_of (without set (cut colour part))) (omega (arith, other, within)) there).1 in
     sums _ _ _ _
     (subst (λ p. number_in gains (place_of part) ≤ℤ number_in gains p) (first (place_of part) (place_of (cut colour part)) (2 ^ colour) less) gained)
     (subst (λ p. number_in own p ≤ℤ number_in own (place_of (without set (cut colour part))))
@@ -79,12 +80,11 @@ useful-none own gains near none = λ set within. record {
   enough = λ upper is. (enough-none own gains set (place_of set) (length own) refl within near none upper).0 is.left_out;
 }
 
--- one place more
-pub adds_nothing-more : (own gains : List ℤ) (place colour : ℕ) → AddsNothing own gains place colour
-    → (0 < bit_and place colour → (number_in gains place ≤ℤ number_in gains (place - colour)) × (number_in own (place - colour) ≤ℤ number_in own place))
-    → AddsNothing own gains (place + 1) colour
-adds_nothing-more own gains place colour before here p within room some = choose (cases_eq p place)
+-- one place more of a block
+pub adds_nothing-more : (own gains : List ℤ) (base place colour : ℕ) → AddsNothingFrom own gains base place colour
+    → AddsNothingTo own gains place colour → AddsNothingFrom own gains base (place + 1) colour
+adds_nothing-more own gains base place colour before here p from within = choose (cases_eq p place)
   where
-    choose : (p ≡ place) ⊎ (p ≡ place → ⊥) → (number_in gains p ≤ℤ number_in gains (p - colour)) × (number_in own (p - colour) ≤ℤ number_in own p)
-    choose (inl same) = rw same (here (rw same at some))
-    choose (inr apart) = before p (omega (arith, within, apart)) room some
+    choose : (p ≡ place) ⊎ (p ≡ place → ⊥) → AddsNothingTo own gains p colour
+    choose (inl same) = rw same here
+    choose (inr apart) = before p from (omega (arith, within, apart))

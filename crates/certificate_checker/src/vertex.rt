@@ -1,5 +1,6 @@
 //! The first number of a vertex that is too low.
 ghost use Rattle.std.specs.Prelude.{◌≡◌, ◌≤◌, ◌<◌, ◌+◌, ◌*◌, ◌-◌, ◌^◌, false, length, map};
+ghost use Rattle.std.specs.Int.{IsPowerOfTwo};
 ghost use Rattle.colour_graph.specs.Graph.{colour_count, colour_of};
 ghost use Rattle.tree_certificate.specs.Number.{AreNumbers};
 ghost use Rattle.tree_certificate.specs.TableHolds.{FitsGraph, greatest_colours};
@@ -109,6 +110,7 @@ fn first_low_set(row: &[i64], step: usize, own: &[i64], gains: &[i64], any: bool
     requires row { length own.now * (2 * step) ≡ length row.now }
     requires held { AreNumbersBelow row.now (length row.now) }
     requires room { length own.now ≡ length gains.now }
+    requires sets { IsPowerOfTwo (length own.now) }
     requires numbers { AreNumbersBelow own.now (length own.now) }
     requires gains { AreGainsBelow gains.now (length own.now) }
     requires none { any ≡ false → AreNoGains gains.now (length own.now) }

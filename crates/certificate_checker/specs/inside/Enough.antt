@@ -1,6 +1,6 @@
 -- What a number of a table is to be at least, over the numbers of one vertex for the sets of the colours behind one,
 -- and what the edges from it into that colour gain.
-use Rattle.std.specs.Prelude.{◌≡◌, ◌<◌, ◌≤◌, ◌-◌, ◌↔◌, ℕ, ℤ, pos, negsuc, ◌+ℤ◌, ◌≤ℤ◌, Bool, List, slice_index_or}
+use Rattle.std.specs.Prelude.{◌≡◌, ◌<◌, ◌≤◌, ◌-◌, ◌/◌, ◌%◌, ◌↔◌, ℕ, ℤ, pos, negsuc, ◌+ℤ◌, ◌≤ℤ◌, Bool, List, slice_index_or}
 use Rattle.std.specs.Int.Bits.{bit_and}
 use Rattle.colour_graph.specs.Graph.{Graph, edge_at, head_colour}
 use Rattle.tree_certificate.specs.ColourSet.{IsPartOf, place_of, without}
@@ -60,17 +60,37 @@ pub record PartAt (set : List Bool) (place : ℕ) : Type 0 where
   pub is_part : IsPartOf part set
   pub at_place : place_of part ≡ place
 
--- A colour, by the place of the set of it alone, adds nothing to the sets that stand before a place: from each of them
--- that it is in, no more is gained than from the set without it, whose number is no greater.
-abbrev pub AddsNothing : List ℤ → List ℤ → ℕ → ℕ → Type 0
-AddsNothing own gains count colour = (place : ℕ) → place < count → colour ≤ place → 0 < bit_and place colour
-    → (number_in gains place ≤ℤ number_in gains (place - colour))
+-- The set that stands at a place has a colour, given by the place of the set of it alone.
+abbrev pub HasColour : ℕ → ℕ → Type 0
+HasColour place colour = place / colour % 2 ≡ 1
+
+-- A colour adds nothing to the set that stands at a place: from this set no more is gained than from the one without
+-- it, whose number is no greater.
+abbrev pub AddsNothingTo : List ℤ → List ℤ → ℕ → ℕ → Type 0
+AddsNothingTo own gains place colour = (number_in gains place ≤ℤ number_in gains (place - colour))
     × (number_in own (place - colour) ≤ℤ number_in own place)
 
--- Wherever it is in a set that stands before a place, a number for the set is no greater than the one without it.
+abbrev pub AddsNothingFrom : List ℤ → List ℤ → ℕ → ℕ → ℕ → Type 0
+AddsNothingFrom own gains first past colour = (place : ℕ) → first ≤ place → place < past
+    → AddsNothingTo own gains place colour
+
+-- It adds nothing wherever it is in a set that stands before a place.
+abbrev pub AddsNothing : List ℤ → List ℤ → ℕ → ℕ → Type 0
+AddsNothing own gains count colour = (place : ℕ) → place < count → HasColour place colour
+    → AddsNothingTo own gains place colour
+
+-- The number for the set that stands at a place is no greater than the one without a colour.
+abbrev pub RaisesNothingTo : List ℤ → ℕ → ℕ → Type 0
+RaisesNothingTo numbers place colour = number_in numbers place ≤ℤ number_in numbers (place - colour)
+
+abbrev pub RaisesNothingFrom : List ℤ → ℕ → ℕ → ℕ → Type 0
+RaisesNothingFrom numbers first past colour = (place : ℕ) → first ≤ place → place < past
+    → RaisesNothingTo numbers place colour
+
+-- the same wherever the colour is in a set that stands before a place
 abbrev pub RaisesNothing : List ℤ → ℕ → ℕ → Type 0
-RaisesNothing numbers count colour = (place : ℕ) → place < count → colour ≤ place → 0 < bit_and place colour
-    → number_in numbers place ≤ℤ number_in numbers (place - colour)
+RaisesNothing numbers count colour = (place : ℕ) → place < count → HasColour place colour
+    → RaisesNothingTo numbers place colour
 
 -- the part of a set that stands at a place, where a head needs no other colour of the set
 pub record UsefulPart (own gains : List ℤ) (set : List Bool) (place : ℕ) : Type 0 where

@@ -77,6 +77,7 @@ first_low_set-requires c =
       row = split graph rows c.args.vertex c.args.size c.step_of-step.result c.row_of-row.result.now c.copy_numbers.new.own c.requires.size c.step_of-step.ensures.step long known;
       held = known.near;
       room = long ∙ sym c.requires.gains ∙ sym c.gather_gains-any.ensures.room;
+      sets = (c.args.size, long);
       numbers = rw long are.near;
       gains = rw long are.gained.near;
       none = λ none. (rw (c.requires.gains, ← long) at (c.gather_gains-any.ensures.none none));
