@@ -10,6 +10,7 @@ mod LowPlaces
 mod BoundVerdicts
 mod Verdicts
 mod CapOf
+mod FoundSets
 mod Gaining
 mod SplitSides
 mod AreMarks

@@ -1,11 +1,13 @@
 -- Gains that an edge raises, one place after another, and what the edges before one gain together.
 use Rattle.std.proofs.Common.{◌≡◌, ◌≢◌, ◌⊎◌, inl, inr, ◌+◌, ◌*◌, ◌<◌, ◌≤◌, ◌↔◌, ℕ, ℤ, pos, negsuc, ◌+ℤ◌, ◌≤ℤ◌, List, length, slice_set, get_or-set_other, get_or-set_same, ap, sym, ◌∙◌, arith}
 use Rattle.std.proofs.lemmas.Bool.{cases_eq}
+use Rattle.std.proofs.Math.ListN.{replicate}
 use Rattle.std.proofs.lemmas.Int.{ints}
+use Rattle.std.proofs.lemmas.List.{get_or-replicate}
 use Rattle.colour_graph.specs.EdgeSet.{AreInto}
-use Rattle.colour_graph.specs.Graph.{Graph, edge_at, head_colour}
+use Rattle.colour_graph.specs.Graph.{Graph, IsScore, edge_at, head_colour}
 use Rattle.tree_certificate.specs.TableHolds.{number_at, row_at}
-use Rattle.certificate_checker.specs.inside.Enough.{AreGainsBefore, AreGainsBelow, AreNoGains, IsEnoughBefore, IsGain, IsRaised, number_in}
+use Rattle.certificate_checker.specs.inside.Enough.{AreGainsBefore, AreGainsBelow, AreNoGains, IsEnoughBefore, IsGain, IsNumber, IsRaised, number_in}
 
 number_in-same : (numbers : List ℤ) (place : ℕ) (number : ℤ) → place < length numbers → number_in (slice_set numbers place number) place ≡ number
 number_in-same numbers place number within = get_or-set_same numbers place number (pos 0) within
@@ -36,6 +38,16 @@ gains-more gains more place count room before is p within = choose (cases_eq p p
     choose (inl same) = rw (same, number_in-same gains place more room) is
     choose (inr apart) = rw (number_in-other gains place p more apart) (before p within)
 
+-- one gain set
+pub set-more : (gains numbers : List ℤ) (weight more : ℤ) (place : ℕ) → place < length gains
+    → ((p : ℕ) → p < place → number_in gains p ≡ weight +ℤ number_in numbers p) → more ≡ weight +ℤ number_in numbers place
+    → (p : ℕ) → p < place + 1 → number_in (slice_set gains place more) p ≡ weight +ℤ number_in numbers p
+set-more gains numbers weight more place room before is p within = choose (cases_eq p place)
+  where
+    choose : (p ≡ place) ⊎ (p ≡ place → ⊥) → number_in (slice_set gains place more) p ≡ weight +ℤ number_in numbers p
+    choose (inl same) = rw same (number_in-same gains place more room ∙ is)
+    choose (inr apart) = number_in-other gains place p more apart ∙ before p (omega (arith, within, apart))
+
 -- numbers copied so far
 pub copied-more : (own row : List ℤ) (step place : ℕ) (number : ℤ) → place < length own → number ≡ number_in row (step * place)
     → ((p : ℕ) → p < place → number_in own p ≡ number_in row (step * p)) → (p : ℕ) → p < place + 1 → number_in (slice_set own place number) p ≡ number_in row (step * p)
@@ -47,6 +59,36 @@ copied-more own row step place number room is before p within = choose (cases_eq
 
 nothing_is_gain : (gain : ℤ) → gain ≡ negsuc 1999999999999999 → IsGain gain
 nothing_is_gain gain is = record { not_below = omega (arith, ints); not_above = omega (arith, ints) }
+
+-- Gains that stand for no edge, and one raised from there.
+abbrev pub cleared : ℕ → List ℤ
+cleared count = replicate count (negsuc 1999999999999999)
+
+pub cleared-none : (count : ℕ) → AreNoGains (cleared count) count
+cleared-none count place within = get_or-replicate count place (negsuc 1999999999999999) (pos 0) within
+
+pub raised-cleared : (more weight number : ℤ) (place count : ℕ) → place < count → IsScore weight → IsNumber number → more ≡ weight +ℤ number
+    → IsRaised more (number_in (cleared count) place) weight number
+raised-cleared more weight number place count within score near is upper = rw (cleared-none count place within, is) (
+  λ low. (above weight number upper score.not_below near.not_below low, low),
+  λ both. both.1,
+)
+  where
+    above : (a b c : ℤ) → negsuc 99999 ≤ℤ a → negsuc 999999999999999 ≤ℤ b → (a +ℤ b) ≤ℤ c → negsuc 1999999999999999 ≤ℤ c
+    above a b c one other low = omega (arith, ints)
+
+-- what an edge gains beside no other
+pub gain-set : (more weight number : ℤ) → IsScore weight → IsNumber number → more ≡ weight +ℤ number → IsGain more
+gain-set more weight number score near is = record {
+  not_below = rw is (low weight number score.not_below near.not_below);
+  not_above = rw is (high weight number score.not_above near.not_above);
+}
+  where
+    low : (a b : ℤ) → negsuc 99999 ≤ℤ a → negsuc 999999999999999 ≤ℤ b → negsuc 1999999999999999 ≤ℤ (a +ℤ b)
+    low a b one other = omega (arith, ints)
+
+    high : (a b : ℤ) → a ≤ℤ pos 100000 → b ≤ℤ pos 1000000000000000 → (a +ℤ b) ≤ℤ pos 1000000000100000
+    high a b one other = omega (arith, ints)
 
 -- Before the edges into a colour no edge gains.
 pub gains-first : (graph : Graph) (rows : List (List ℤ)) (vertex colour first past count : ℕ) (gains : List ℤ) → AreInto graph colour first past

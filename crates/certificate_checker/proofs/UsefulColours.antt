@@ -1,13 +1,12 @@
 -- Which colours of a set a head may need: of each colour that adds nothing, none does.
 use Rattle.std.proofs.Common.{◌≡◌, ◌⊎◌, inl, inr, ◌+◌, ◌-◌, ◌^◌, ◌<◌, ◌≤◌, ℕ, ℤ, ◌+ℤ◌, ◌≤ℤ◌, Bool, true, false, List, length, refl, sym, subst, ◌∙◌, arith}
-use Rattle.std.specs.Int.Bits.{and_zero_r}
 use Rattle.std.proofs.lemmas.Bool.{cases_eq}
 use Rattle.std.proofs.lemmas.Int.{ints}
 use Rattle.tree_certificate.specs.ColourSet.{IsPartOf, place_of, without}
-use Rattle.tree_certificate.proofs.SetParts.{IsPartOf-nothing, nothing_of, place-nothing, place-without}
-use Rattle.certificate_checker.specs.inside.Enough.{AddsNothing, AddsNothingFrom, AddsNothingTo, AreNoGains, AreNumbersBelow, AreUseful, IsEnough, IsEnoughOf, number_in}
+use Rattle.tree_certificate.proofs.SetParts.{place-without}
+use Rattle.certificate_checker.specs.inside.Enough.{AddsNothing, AddsNothingFrom, AddsNothingTo, AreUseful, IsEnough, IsEnoughOf, number_in}
 use Rattle.certificate_checker.proofs.MarkedColours.{AreMarked, IsPartOf-kept, cut, cut-none, cut-part, has, has-left, in_place, kept, marked-place, part-cut, place-cut}
-use Rattle.certificate_checker.proofs.PartWalk.{IsPartOf-part, enough-none}
+use Rattle.certificate_checker.proofs.PartWalk.{IsPartOf-part}
 
 -- A part without a colour that adds nothing gives no less.
 no_less : (own gains : List ℤ) (colour : ℕ) (set part : List Bool) → AddsNothing own gains (length own) (2 ^ colour) → place_of set < length own → IsPartOf part set → has colour part ≡ true
@@ -69,15 +68,6 @@ useful-last own gains colour useful are all = λ set within. record {
   is_part = IsPartOf-kept set are.marks;
   at_place = marked-place (PartIsEnough own gains) (length own) colour useful are all set within;
   enough = are.holds set within;
-}
-
--- Where nothing is gained, a head needs no colour.
-pub useful-none : (own gains : List ℤ) → AreNumbersBelow own (length own) → AreNoGains gains (length own) → AreUseful own gains (length own) 0
-useful-none own gains near none = λ set within. record {
-  part = nothing_of set;
-  is_part = IsPartOf-nothing set;
-  at_place = place-nothing set ∙ sym (and_zero_r (place_of set));
-  enough = λ upper is. (enough-none own gains set (place_of set) (length own) refl within near none upper).0 is.left_out;
 }
 
 -- one place more of a block

@@ -1,7 +1,7 @@
 //! Which of the colours behind one matter for a vertex's numbers: in most graphs few do, and only these are walked over.
-ghost use Rattle.std.specs.Prelude.{◌≡◌, ◌≤◌, ◌<◌, ◌+◌, ◌*◌, ◌%◌, ◌≤ℤ◌, IsTrue, false, length};
+ghost use Rattle.std.specs.Prelude.{◌≡◌, ◌≤◌, ◌<◌, ◌+◌, ◌*◌, ◌%◌, ◌≤ℤ◌, IsTrue, length};
 ghost use Rattle.std.specs.Int.{IsPowerOfTwo};
-ghost use Rattle.certificate_checker.specs.inside.Enough.{AddsNothing, AddsNothingFrom, AreGainsBelow, AreNoGains};
+ghost use Rattle.certificate_checker.specs.inside.Enough.{AddsNothing, AddsNothingFrom, AreGainsBelow};
 ghost use Rattle.certificate_checker.specs.inside.Enough.{AreNumbersBelow, AreTelling, AreUseful};
 ghost use Rattle.certificate_checker.specs.inside.Enough.{RaisesNothing, RaisesNothingFrom};
 
@@ -15,22 +15,15 @@ pub(crate) struct Colours {
 }
 
 /// The colours that matter, by a vertex's numbers for the sets of the colours behind one and by what the edges from it
-/// into that colour gain, if there are any.
-pub(crate) fn colours_of(own: &[i64], gains: &[i64], any: bool) -> Colours
+/// into that colour gain.
+pub(crate) fn colours_of(own: &[i64], gains: &[i64]) -> Colours
     requires room { length own.now ≡ length gains.now }
     requires sets { IsPowerOfTwo (length own.now) }
     requires numbers { AreNumbersBelow own.now (length own.now) }
     requires gains { AreGainsBelow gains.now (length own.now) }
-    requires none { any ≡ false → AreNoGains gains.now (length own.now) }
     ensures useful { AreUseful own.now gains.now (length own.now) result.useful }
     ensures telling { AreTelling own.now gains.now (length own.now) result.telling }
 {
-    if !any {
-        return Colours {
-            useful: 0,
-            telling: usize::MAX,
-        };
-    }
     let mut useful = 0;
     let mut telling = 0;
     let mut colour = 1;

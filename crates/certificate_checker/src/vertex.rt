@@ -1,5 +1,5 @@
 //! The first number of a vertex that is too low.
-ghost use Rattle.std.specs.Prelude.{◌≡◌, ◌≤◌, ◌<◌, ◌+◌, ◌*◌, ◌-◌, ◌^◌, false, length, map};
+ghost use Rattle.std.specs.Prelude.{◌≡◌, ◌≤◌, ◌<◌, ◌+◌, ◌*◌, ◌-◌, ◌^◌, ℤ, List, false, length, map};
 ghost use Rattle.std.specs.Int.{IsPowerOfTwo};
 ghost use Rattle.colour_graph.specs.Graph.{colour_count, colour_of};
 ghost use Rattle.tree_certificate.specs.Number.{AreNumbers};
@@ -103,7 +103,9 @@ fn step_of(graph: &ColourGraph, vertex: VertexId, size: usize) -> usize
     1 << (graph.colour_count() as usize - size - usize::from(graph.colour_of(vertex)) - 1)
 }
 
-/// The first number of a row that is too low, among those for a colour and sets of the colours behind it.
+/// The first number of a row that is too low, among those for a colour and sets of the colours behind it. Its loop stays
+/// in registers where it stands alone.
+#[inline(never)]
 fn first_low_set(row: &[i64], step: usize, own: &[i64], gains: &[i64], any: bool) -> Option<Low>
     requires few { length row.now ≤ 4096 }
     requires step { (0 < step) × (step ≤ 4096) }
@@ -116,7 +118,10 @@ fn first_low_set(row: &[i64], step: usize, own: &[i64], gains: &[i64], any: bool
     requires none { any ≡ false → AreNoGains gains.now (length own.now) }
     ensures { IsFoundSet row.now own.now gains.now step (length own.now) result }
 {
-    let colours = colours_of(own, gains, any);
+    if !any {
+        return first_below(row, step, own);
+    }
+    let colours = colours_of(own, gains);
     for set in 0..own.len() {
         let place = step * (1 + 2 * set);
         let part = set & colours.telling;
@@ -124,6 +129,28 @@ fn first_low_set(row: &[i64], step: usize, own: &[i64], gains: &[i64], any: bool
             continue;
         }
         let needed = least_enough(own, gains, colours.useful, set);
+        if row[place] < needed {
+            return Some(Low { place, needed });
+        }
+    }
+    None
+}
+
+/// The first number of a row that is too low, among those for a colour that no edge goes to: there each is to be at least
+/// the one for the set without the colour.
+#[inline(never)]
+fn first_below(row: &[i64], step: usize, own: &[i64]) -> Option<Low>
+    requires few { length row.now ≤ 4096 }
+    requires step { (0 < step) × (step ≤ 4096) }
+    requires row { length own.now * (2 * step) ≡ length row.now }
+    requires held { AreNumbersBelow row.now (length row.now) }
+    requires numbers { AreNumbersBelow own.now (length own.now) }
+    ensures { (gains : List ℤ) → AreNoGains gains (length own.now)
+        → IsFoundSet row.now own.now gains step (length own.now) result }
+{
+    for (set, number) in own.iter().enumerate() {
+        let needed = *number;
+        let place = step * (1 + 2 * set);
         if row[place] < needed {
             return Some(Low { place, needed });
         }

@@ -5,7 +5,7 @@ use Rattle.certificate_checker.specs.inside.Enough.{AddsNothing}
 use Rattle.certificate_checker.proofs.HasColour.{whole_blocks}
 use Rattle.certificate_checker.proofs.IdleColours.{PartTells, cut-tells, telling-last, whole-tells}
 use Rattle.certificate_checker.proofs.MarkedColours.{AreMarked, marked-cut, marked-more, marked-none}
-use Rattle.certificate_checker.proofs.UsefulColours.{PartIsEnough, cut-is-enough, useful-last, useful-none, whole-is-enough}
+use Rattle.certificate_checker.proofs.UsefulColours.{PartIsEnough, cut-is-enough, useful-last, whole-is-enough}
 use Rattle.certificate_checker.proofs.colours.colours_of.Goals as goal
 use Rattle.certificate_checker.proofs.colours.colours_of.Goals.{then-not-adds_nothing, else-not-adds_nothing+then-not-raises_nothing, else-not-adds_nothing+else-not-raises_nothing}
 
@@ -16,9 +16,6 @@ blocks own Holds colour useful sets within are = (
   rw (← are.looked_at) (pow_pos (length are.marks)),
   subst (λ n. length own % (2 * n) ≡ 0) are.looked_at (whole_blocks (length own) (length are.marks) sets (rw are.looked_at within)),
 )
-
-pub returns-then-not-any-clause-useful : goal.returns-then-not-any-clause-useful
-returns-then-not-any-clause-useful c = useful-none c.args.own.now c.args.gains.now c.requires.numbers (c.requires.none c.if-not-any.true)
 
 pub loop-colour-init : goal.loop-colour-init
 loop-colour-init c =
