@@ -76,7 +76,7 @@ first-undone graph allowed now new colour before part old taken set_is now_is be
 no_leaf_place : (graph : Graph) (allowed : List Bool) (cert : PriceValue) (upper : ℤ) (node : ℕ) (place : Place) → IsLeafPlace graph allowed cert upper node place
     → PriceHolds graph allowed cert → price_total graph cert ≤ℤ upper → ⊥
 no_leaf_place graph allowed cert upper node (PriceShape at) is holds below =
-    is.1 (record { price_count = holds.price_count; potential_count = holds.potential_count })
+    is.1 holds.fits
 no_leaf_place graph allowed cert upper node (PriceNegative at colour) (same, is) holds below =
     above (price_of cert colour) is.negative (holds.prices (colour - 1) (pos 0) (omega (arith, is.among, is.fits.price_count)))
   where

@@ -33,7 +33,10 @@ pub no_gap_place : (graph : Graph) (bound : BoundValue) (score upper : ℤ) (bud
     → IsGapPlace graph bound score upper budget place → Spent graph bound score upper budget → ⊥
 no_gap_place graph bound score upper budget (Splits splits) is spent = is.1 spent.splits
 no_gap_place graph bound score upper budget (Loose greatest) is spent = is.2 (one_greatest graph _ greatest upper is.1 spent.greatest)
-no_gap_place graph bound score upper budget (Slack node) is spent = is.1.wrong (all_at (IsTight graph) (all_leaves graph bound) is.1.place is.1.leaf spent.tight is.1.is_leaf)
-no_gap_place graph bound score upper budget (Wasted node) is spent = is.1.wrong (all_at (IsUseful graph upper) (all_forks graph bound) is.1.place is.1.fork spent.useful is.1.is_fork)
-no_gap_place graph bound score upper budget (Decided node) is spent = is.1.wrong (all_at (CanGoOn graph score) (all_leaves graph bound) is.1.place is.1.leaf spent.go_on is.1.is_leaf)
+no_gap_place graph bound score upper budget (Slack node) is spent =
+    is.1.wrong (all_at (IsTight graph) (all_leaves graph bound) is.1.place is.1.node spent.tight is.1.is_node)
+no_gap_place graph bound score upper budget (Wasted node) is spent =
+    is.1.wrong (all_at (IsUseful graph upper) (all_forks graph bound) is.1.place is.1.node spent.useful is.1.is_node)
+no_gap_place graph bound score upper budget (Decided node) is spent =
+    is.1.wrong (all_at (CanGoOn graph score) (all_leaves graph bound) is.1.place is.1.node spent.go_on is.1.is_node)
 no_gap_place graph bound score upper budget other is spent = is

@@ -1,4 +1,4 @@
--- Of Gathered: what is found among the nodes of a bound with one more leaf or split.
+-- Of Gathered: what is found among the nodes of a bound with one more.
 use Rattle.std.proofs.Common.{◌≡◌, ◌≤◌, ℕ, zero, suc, ℤ, ◌≤ℤ◌, ◌<ℤ◌, Bool, true, false, List, [], ◌∷◌, ◌++◌, Option, None, Some, length, refl, arith}
 use lib.Signed.{le_z}
 use Rattle.std.proofs.lemmas.Int.{ints}
@@ -7,8 +7,7 @@ use Rattle.std.proofs.lemmas.List.{take-append-le}
 use Rattle.std.proofs.lemmas.List.Elements.{All-push}
 use Rattle.std.proofs.lemmas.Option.{slice_get_within}
 use Rattle.std.specs.List.{slice_get}
-use Rattle.tree_certificate.specs.Spent.{Fork, Leaf}
-use Rattle.certificate_checker.specs.inside.Gathered.{IsFoundFork, IsFoundLeaf, found_with}
+use Rattle.certificate_checker.specs.inside.Gathered.{IsFound, found_with}
 
 -- the element at a place stays there where the list grows, and a new one stands at its end
 pub slice_get-kept : {X : Type 0} (xs ys : List X) (place : ℕ) (x : X) → slice_get xs place ≡ Some x → slice_get (xs ++ ys) place ≡ Some x
@@ -23,52 +22,29 @@ slice_get-last : {X : Type 0} (xs : List X) (x : X) → slice_get (xs ++ x ∷ [
 slice_get-last [] x = refl
 slice_get-last (first ∷ xs) x = slice_get-last xs x
 
--- one more leaf
-pub found_leaf : (Is : Leaf → Type 0) (leaves : List Leaf) (leaf : Leaf) (found : Option ℕ) (holds : Bool) → (holds ≡ true → Is leaf)
-    → (holds ≡ false → ¬ Is leaf) → IsFoundLeaf Is leaves found → IsFoundLeaf Is (leaves ++ leaf ∷ []) (found_with found holds leaf.node)
-found_leaf Is leaves leaf (Some first) holds goes fails is = record {
+-- one more node
+pub found_node : {X : Type 0} (number_of : X → ℕ) (Is : X → Type 0) (nodes : List X) (node : X) (found : Option ℕ) (holds : Bool)
+    → (holds ≡ true → Is node) → (holds ≡ false → ¬ Is node) → IsFound number_of Is nodes found
+    → IsFound number_of Is (nodes ++ node ∷ []) (found_with found holds (number_of node))
+found_node number_of Is nodes node (Some first) holds goes fails is = record {
   place = is.place;
-  leaf = is.leaf;
-  is_leaf = slice_get-kept leaves (leaf ∷ []) is.place is.leaf is.is_leaf;
+  node = is.node;
+  is_node = slice_get-kept nodes (node ∷ []) is.place is.node is.is_node;
   numbered = is.numbered;
   wrong = is.wrong;
-  before = rw (take-append-le is.place leaves (leaf ∷ []) within) is.before;
+  before = rw (take-append-le is.place nodes (node ∷ []) within) is.before;
 }
   where
-    within : is.place ≤ length leaves
-    within = omega (arith, slice_get_within leaves is.place is.leaf is.is_leaf)
-found_leaf Is leaves leaf None true goes fails is = All-push Is leaves leaf is (goes refl)
-found_leaf Is leaves leaf None false goes fails is = record {
-  place = length leaves;
-  leaf = leaf;
-  is_leaf = slice_get-last leaves leaf;
+    within : is.place ≤ length nodes
+    within = omega (arith, slice_get_within nodes is.place is.node is.is_node)
+found_node number_of Is nodes node None true goes fails is = All-push Is nodes node is (goes refl)
+found_node number_of Is nodes node None false goes fails is = record {
+  place = length nodes;
+  node = node;
+  is_node = slice_get-last nodes node;
   numbered = refl;
   wrong = fails refl;
-  before = rw (take-append_seam leaves (leaf ∷ [])) is;
-}
-
--- one more split
-pub found_fork : (Is : Fork → Type 0) (forks : List Fork) (fork : Fork) (found : Option ℕ) (holds : Bool) → (holds ≡ true → Is fork)
-    → (holds ≡ false → ¬ Is fork) → IsFoundFork Is forks found → IsFoundFork Is (forks ++ fork ∷ []) (found_with found holds fork.node)
-found_fork Is forks fork (Some first) holds goes fails is = record {
-  place = is.place;
-  fork = is.fork;
-  is_fork = slice_get-kept forks (fork ∷ []) is.place is.fork is.is_fork;
-  numbered = is.numbered;
-  wrong = is.wrong;
-  before = rw (take-append-le is.place forks (fork ∷ []) within) is.before;
-}
-  where
-    within : is.place ≤ length forks
-    within = omega (arith, slice_get_within forks is.place is.fork is.is_fork)
-found_fork Is forks fork None true goes fails is = All-push Is forks fork is (goes refl)
-found_fork Is forks fork None false goes fails is = record {
-  place = length forks;
-  fork = fork;
-  is_fork = slice_get-last forks fork;
-  numbered = refl;
-  wrong = fails refl;
-  before = rw (take-append_seam forks (fork ∷ [])) is;
+  before = rw (take-append_seam nodes (node ∷ [])) is;
 }
 
 -- a test of two numbers, by what they are

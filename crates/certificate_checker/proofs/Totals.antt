@@ -13,21 +13,19 @@ use Rattle.tree_certificate.proofs.BoundValues.{value_of_split}
 use Rattle.tree_certificate.specs.BoundHolds.{BoundHolds}
 use Rattle.tree_certificate.specs.BoundValue.{BoundValue, PriceValue, priced, split}
 use Rattle.tree_certificate.specs.BoundView.{bound_value}
-use Rattle.tree_certificate.specs.PriceHolds.{price_total}
+use Rattle.tree_certificate.specs.PriceHolds.{AreNotNegative, FitsPrices, price_total}
 use Rattle.tree_certificate.specs.Spent.{IsGreatestTotal, Leaf, leaves_of}
 use Rattle.tree_certificate.specs.declared.bound.Bound.{Bound}
 use Rattle.tree_certificate.specs.declared.bound.Bound.TheVariants.{Priced, Split}
 use Rattle.colour_graph.specs.EdgeSet.{leaving, only}
 use Rattle.certificate_checker.proofs.CapOf.{self}
 use Rattle.certificate_checker.proofs.Gathering.{slice_get-kept}
-use Rattle.certificate_checker.specs.BoundPlaces.{AreNotNegative, FitsPrices}
 use Rattle.certificate_checker.specs.inside.Gathered.{HasTotals}
 
 -- a bound that holds has totals
 pub HasTotals-holds : (graph : Graph) (allowed : List Bool) (bound : BoundValue) (upper : ℤ) → BoundHolds graph allowed bound upper
     → HasTotals graph bound
-HasTotals-holds graph allowed (priced cert) upper holds =
-    (record { price_count = holds.0.price_count; potential_count = holds.0.potential_count }, holds.0.prices)
+HasTotals-holds graph allowed (priced cert) upper holds = (holds.0.fits, holds.0.prices)
 HasTotals-holds graph allowed (split colour part first second) upper holds = (
   HasTotals-holds graph (only graph allowed colour part) first upper holds.1,
   HasTotals-holds graph (leaving allowed part) second upper holds.2,

@@ -1,26 +1,17 @@
 -- Why prices and splits do not hold: the first place, in the order of looking, where a condition fails. They are the
 -- nodes of a bound, numbered from 0: a split before its sides, and the first side before the second.
 use Rattle.std.specs.Prelude.{◌≡◌, ◌<◌, ◌≤◌, ◌+◌, ◌⊎◌, ℕ, ℤ, pos, ◌<ℤ◌, ◌≤ℤ◌, Bool, List, length}
-use Rattle.std.specs.List.{All}
 use Rattle.colour_graph.specs.EdgeSet.{leaving, only}
 use Rattle.colour_graph.specs.Graph.{Graph, colour_count}
 use Rattle.tree_certificate.specs.BoundHolds.{BoundHolds, IsSplit, nodes_of}
 use Rattle.tree_certificate.specs.BoundValue.{BoundValue, PriceValue, priced, split}
-use Rattle.tree_certificate.specs.PriceHolds.{PriceHolds, needed_of, potential_of, price_of, price_total}
+use Rattle.tree_certificate.specs.PriceHolds.{AreNotNegative, FitsPrices, PriceHolds, needed_of}
+use Rattle.tree_certificate.specs.PriceHolds.{potential_of, price_of, price_total}
 use Rattle.certificate_checker.specs.declared.place.Place.{Place}
 use Rattle.certificate_checker.specs.declared.place.Place.TheVariants.{SplitColour, SplitEdges, PriceShape}
 use Rattle.certificate_checker.specs.declared.place.Place.TheVariants.{PriceNegative, PotentialLow, LeafTotal}
 use Rattle.certificate_checker.specs.declared.place.Verdict.{Verdict}
 use Rattle.certificate_checker.specs.declared.place.Verdict.TheVariants.{Holds, Fails}
-
--- there are as many prices as colours, and as many potentials as vertices
-pub record FitsPrices (graph : Graph) (cert : PriceValue) : Type 0 where
-  pub price_count : length cert.prices ≡ colour_count graph
-  pub potential_count : length cert.potentials ≡ length graph.colours
-
--- no price is below 0
-abbrev pub AreNotNegative : List ℤ → Type 0
-AreNotNegative prices = All (λ price. pos 0 ≤ℤ price) prices
 
 -- the first colour whose price is below 0
 pub record IsNegativePlace (graph : Graph) (cert : PriceValue) (colour : ℕ) : Type 0 where

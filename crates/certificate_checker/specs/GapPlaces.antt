@@ -17,23 +17,14 @@ all_leaves graph bound = leaves_of graph (all_edges graph) bound 0
 abbrev pub all_forks : Graph → BoundValue → List Fork
 all_forks graph bound = forks_of graph (all_edges graph) bound 0
 
--- the number of the first leaf of which something does not hold
-pub record IsFirstLeaf (Is : Leaf → Type 0) (leaves : List Leaf) (node : ℕ) : Type 0 where
+-- the number of the first of some nodes of which something does not hold
+pub record IsFirstNode {X : Type 0} (number_of : X → ℕ) (Is : X → Type 0) (nodes : List X) (number : ℕ) : Type 0 where
   pub place : ℕ
-  pub leaf : Leaf
-  pub is_leaf : slice_get leaves place ≡ Some leaf
-  pub numbered : leaf.node ≡ node
-  pub wrong : ¬ Is leaf
-  pub before : All Is (take place leaves)
-
--- the number of the first split of which something does not hold
-pub record IsFirstFork (Is : Fork → Type 0) (forks : List Fork) (node : ℕ) : Type 0 where
-  pub place : ℕ
-  pub fork : Fork
-  pub is_fork : slice_get forks place ≡ Some fork
-  pub numbered : fork.node ≡ node
-  pub wrong : ¬ Is fork
-  pub before : All Is (take place forks)
+  pub node : X
+  pub is_node : slice_get nodes place ≡ Some node
+  pub numbered : number_of node ≡ number
+  pub wrong : ¬ Is node
+  pub before : All Is (take place nodes)
 
 -- What is looked at in turn, each with all before it: the number of splits and the greatest total, whether each leaf is
 -- tight, whether each split is useful.
@@ -55,9 +46,9 @@ IsGapPlace graph bound score upper budget (Splits splits) = (splits ≡ splits_o
 IsGapPlace graph bound score upper budget (Loose greatest) = (splits_of bound ≡ budget)
     × IsGreatestTotal graph (all_leaves graph bound) greatest × (greatest ≢ upper)
 IsGapPlace graph bound score upper budget (Slack node) =
-    UpperIsReached graph bound upper budget × IsFirstLeaf (IsTight graph) (all_leaves graph bound) node
+    UpperIsReached graph bound upper budget × IsFirstNode (λ leaf. leaf.node) (IsTight graph) (all_leaves graph bound) node
 IsGapPlace graph bound score upper budget (Wasted node) =
-    LeavesAreTight graph bound upper budget × IsFirstFork (IsUseful graph upper) (all_forks graph bound) node
+    LeavesAreTight graph bound upper budget × IsFirstNode (λ fork. fork.node) (IsUseful graph upper) (all_forks graph bound) node
 IsGapPlace graph bound score upper budget (Decided node) =
-    SplitsAreUseful graph bound upper budget × IsFirstLeaf (CanGoOn graph score) (all_leaves graph bound) node
+    SplitsAreUseful graph bound upper budget × IsFirstNode (λ leaf. leaf.node) (CanGoOn graph score) (all_leaves graph bound) node
 IsGapPlace graph bound score upper budget other = ⊥

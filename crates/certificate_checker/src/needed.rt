@@ -3,8 +3,7 @@ ghost use Rattle.std.specs.Prelude.{◌≡◌, ◌≤◌, ◌<◌, ◌-◌, ◌+
 ghost use Rattle.std.specs.Int.{int_max};
 ghost use Rattle.colour_graph.specs.EdgeSet.{IsSetOf};
 ghost use Rattle.colour_graph.specs.Graph.{IsScore, colour_count};
-ghost use Rattle.tree_certificate.specs.PriceHolds.{needed_of};
-ghost use Rattle.certificate_checker.specs.BoundPlaces.{FitsPrices};
+ghost use Rattle.tree_certificate.specs.PriceHolds.{FitsPrices};
 ghost use Rattle.certificate_checker.specs.inside.Enough.{IsNumber, number_in};
 ghost use Rattle.certificate_checker.specs.inside.Gained.{AreClear, AreGained, AreGainsOf, AreNeededBy, AreNeeds};
 ghost use Rattle.certificate_checker.specs.inside.Gained.{AreOfTails, AreSums, IsEdgeGain, IsGained, IsNeed};
@@ -33,13 +32,13 @@ pub(crate) fn gather_needed(
     let _count = graph.edge_count();
     for before in 0..graph.colour_count() {
         let colour = before as Colour + 1;
-        gather_gains(graph, allowed, cert, colour, gains);
+        gather_best(graph, allowed, cert, colour, gains);
         add_gains(graph, colour, needed, gains);
     }
 }
 
-/// Gathers what vertices gain by a colour, in a buffer of zeros.
-fn gather_gains(
+/// Gathers what vertices gain by a colour, each by the best of its edges there, in a buffer of zeros.
+fn gather_best(
     graph: &ColourGraph,
     allowed: &Allowed,
     cert: &PriceCert,

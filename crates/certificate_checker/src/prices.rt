@@ -5,8 +5,8 @@ ghost use Rattle.colour_graph.specs.Colourful.{total};
 ghost use Rattle.colour_graph.specs.EdgeSet.{IsSetOf};
 ghost use Rattle.colour_graph.specs.Graph.{IsScore};
 ghost use Rattle.tree_certificate.specs.Number.{AreNear};
-ghost use Rattle.tree_certificate.specs.PriceHolds.{PriceHolds, price_total};
-ghost use Rattle.certificate_checker.specs.BoundPlaces.{AreNotNegative, FitsPrices, IsLeafPlace, IsNegativePlace};
+ghost use Rattle.tree_certificate.specs.PriceHolds.{AreNotNegative, FitsPrices, PriceHolds, price_total};
+ghost use Rattle.certificate_checker.specs.BoundPlaces.{IsLeafPlace, IsNegativePlace};
 ghost use Rattle.certificate_checker.specs.inside.Enough.{IsNumber};
 ghost use Rattle.certificate_checker.specs.inside.Gained.{IsPriceSum};
 

@@ -7,7 +7,7 @@ use Rattle.colour_graph.specs.Colourful.{total}
 use Rattle.colour_graph.specs.Graph.{Graph, IsGraph, colour_count, colour_of, edge_at, head_colour}
 use Rattle.tree_certificate.specs.PriceHolds.{edges_between, gain_by, gain_of}
 use Rattle.tree_certificate.proofs.Sums.{IsIn}
-use Rattle.price_bound.specs.inside.Exact.{AreExactAbove, cert_of, gain_at, gain_with, gained_above, number_in}
+use Rattle.price_bound.specs.inside.Exact.{AreExactAbove, cert_with, gain_at, gain_with, gained_above, number_in}
 use Rattle.price_bound.proofs.Edges.{IsBetween, edges_between-in, range-in}
 
 pub map-same : {X : Type 0} (f g : X → ℤ) (xs : List X) → ((x : X) → IsIn x xs → f x ≡ g x) → map f xs ≡ map g xs
@@ -40,11 +40,11 @@ gain_at-none graph allowed colour price potentials vertex is low =
 -- What is gained by a colour depends on the potentials of that colour alone.
 pub gain_of-same : (graph : Graph) (allowed : List Bool) (prices old new : List ℤ) (least vertex colour : ℕ) → IsGraph graph → least ≤ colour
     → ((v : ℕ) → v < length graph.colours → least ≤ colour_of graph v → number_in new v ≡ number_in old v)
-    → gain_of graph allowed (cert_of prices new) vertex colour ≡ gain_of graph allowed (cert_of prices old) vertex colour
+    → gain_of graph allowed (cert_with prices new) vertex colour ≡ gain_of graph allowed (cert_with prices old) vertex colour
 gain_of-same graph allowed prices old new least vertex colour is low same =
-    ap (λ (gains : List ℤ). greatest gains) (map-same (gain_by graph (cert_of prices new) colour) (gain_by graph (cert_of prices old) colour) (edges_between graph allowed vertex colour) each)
+    ap (λ (gains : List ℤ). greatest gains) (map-same (gain_by graph (cert_with prices new) colour) (gain_by graph (cert_with prices old) colour) (edges_between graph allowed vertex colour) each)
   where
-    each : (edge : ℕ) → IsIn edge (edges_between graph allowed vertex colour) → gain_by graph (cert_of prices new) colour edge ≡ gain_by graph (cert_of prices old) colour edge
+    each : (edge : ℕ) → IsIn edge (edges_between graph allowed vertex colour) → gain_by graph (cert_with prices new) colour edge ≡ gain_by graph (cert_with prices old) colour edge
     each edge is_in =
         let between = edges_between-in graph allowed vertex colour edge is_in in
         let head = (is.edges edge (record { tail = 0; head = 0; weight = pos 0 }) between.into.within).head in
@@ -54,31 +54,31 @@ gain_of-same graph allowed prices old new least vertex colour is low same =
 -- the same of all colours above one
 pub gained_above-same : (graph : Graph) (allowed : List Bool) (prices old new : List ℤ) (vertex colour : ℕ) → IsGraph graph
     → ((v : ℕ) → v < length graph.colours → colour < colour_of graph v → number_in new v ≡ number_in old v)
-    → gained_above graph allowed (cert_of prices new) colour vertex ≡ gained_above graph allowed (cert_of prices old) colour vertex
+    → gained_above graph allowed (cert_with prices new) colour vertex ≡ gained_above graph allowed (cert_with prices old) colour vertex
 gained_above-same graph allowed prices old new vertex colour is same =
-    ap total (map-same (gain_of graph allowed (cert_of prices new) vertex) (gain_of graph allowed (cert_of prices old) vertex) (range_with_len (colour + 1) (colour_count graph - colour)) each)
+    ap total (map-same (gain_of graph allowed (cert_with prices new) vertex) (gain_of graph allowed (cert_with prices old) vertex) (range_with_len (colour + 1) (colour_count graph - colour)) each)
   where
-    each : (c : ℕ) → IsIn c (range_with_len (colour + 1) (colour_count graph - colour)) → gain_of graph allowed (cert_of prices new) vertex c ≡ gain_of graph allowed (cert_of prices old) vertex c
+    each : (c : ℕ) → IsIn c (range_with_len (colour + 1) (colour_count graph - colour)) → gain_of graph allowed (cert_with prices new) vertex c ≡ gain_of graph allowed (cert_with prices old) vertex c
     each c is_in =
         gain_of-same graph allowed prices old new (colour + 1) vertex c is (range-in (colour + 1) (colour_count graph - colour) c is_in).0 (λ v within high. same v within (omega (arith, high)))
 
 -- one colour more
 pub gained_above-more : (graph : Graph) (allowed : List Bool) (prices potentials : List ℤ) (vertex colour before : ℕ) → before + 1 ≡ colour → colour ≤ colour_count graph
-    → gained_above graph allowed (cert_of prices potentials) before vertex
-    ≡ gain_of graph allowed (cert_of prices potentials) vertex colour +ℤ gained_above graph allowed (cert_of prices potentials) colour vertex
+    → gained_above graph allowed (cert_with prices potentials) before vertex
+    ≡ gain_of graph allowed (cert_with prices potentials) vertex colour +ℤ gained_above graph allowed (cert_with prices potentials) colour vertex
 gained_above-more graph allowed prices potentials vertex colour before next counted =
     ap (λ c. total (map gain (range_with_len c (colour_count graph - before)))) next ∙ ap (λ m. total (map gain (range_with_len colour m))) (count (colour_count graph) colour before next counted)
   where
     gain : ℕ → ℤ
-    gain c = gain_of graph allowed (cert_of prices potentials) vertex c
+    gain c = gain_of graph allowed (cert_with prices potentials) vertex c
 
     count : (k c b : ℕ) → b + 1 ≡ c → c ≤ k → k - b ≡ suc (k - c)
     count k c b is low = omega arith
 
 pub exact-first : (graph : Graph) (allowed : List Bool) (prices potentials : List ℤ) → ((place : ℕ) → number_in potentials place ≡ pos 0)
-    → AreExactAbove graph allowed (cert_of prices potentials) (colour_count graph)
+    → AreExactAbove graph allowed (cert_with prices potentials) (colour_count graph)
 exact-first graph allowed prices potentials clear vertex within =
-    clear vertex ∙ ap (λ m. total (map (gain_of graph allowed (cert_of prices potentials) vertex) (range_with_len (colour_count graph + 1) m))) (none (colour_count graph))
+    clear vertex ∙ ap (λ m. total (map (gain_of graph allowed (cert_with prices potentials) vertex) (range_with_len (colour_count graph + 1) m))) (none (colour_count graph))
   where
     none : (k : ℕ) → 0 ≡ k - k
     none k = omega arith
@@ -91,12 +91,12 @@ with_nothing a = omega (arith, ints)
 
 pub exact-more : (graph : Graph) (allowed : List Bool) (prices old new : List ℤ) (colour before : ℕ) → IsGraph graph → before + 1 ≡ colour → colour ≤ colour_count graph
     → ((v : ℕ) → v < length graph.colours → number_in new v ≡ number_in old v +ℤ gain_at graph allowed colour (number_in prices before) old v)
-    → AreExactAbove graph allowed (cert_of prices old) colour → AreExactAbove graph allowed (cert_of prices new) before
+    → AreExactAbove graph allowed (cert_with prices old) colour → AreExactAbove graph allowed (cert_with prices new) before
 exact-more graph allowed prices old new colour before is next counted added exact vertex within =
     added vertex within
     ∙ ap (λ n. n +ℤ gain_at graph allowed colour (number_in prices before) old vertex) (exact vertex within ∙ sym (gained_above-same graph allowed prices old new vertex colour is above))
-    ∙ ap (λ n. gained_above graph allowed (cert_of prices new) colour vertex +ℤ n) gain_is
-    ∙ turned (gained_above graph allowed (cert_of prices new) colour vertex) (gain_of graph allowed (cert_of prices new) vertex colour)
+    ∙ ap (λ n. gained_above graph allowed (cert_with prices new) colour vertex +ℤ n) gain_is
+    ∙ turned (gained_above graph allowed (cert_with prices new) colour vertex) (gain_of graph allowed (cert_with prices new) vertex colour)
     ∙ sym (gained_above-more graph allowed prices new vertex colour before next counted)
   where
     not_below : (v : ℕ) → v < length graph.colours → colour ≤ colour_of graph v → number_in new v ≡ number_in old v
@@ -109,7 +109,7 @@ exact-more graph allowed prices old new colour before is next counted added exac
     place : (b c : ℕ) → b + 1 ≡ c → b ≡ c - 1
     place b c is' = omega arith
 
-    gain_is : gain_at graph allowed colour (number_in prices before) old vertex ≡ gain_of graph allowed (cert_of prices new) vertex colour
+    gain_is : gain_at graph allowed colour (number_in prices before) old vertex ≡ gain_of graph allowed (cert_with prices new) vertex colour
     gain_is =
         ap (λ p. gain_at graph allowed colour (number_in prices p) old vertex) (place before colour next)
         ∙ sym (gain_of-same graph allowed prices old new colour vertex colour is (omega arith) not_below)

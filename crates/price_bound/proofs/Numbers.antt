@@ -3,7 +3,7 @@ use Rattle.std.proofs.Common.{◌≡◌, ◌≢◌, ◌⊎◌, inl, inr, ◌+◌
 use Rattle.std.proofs.lemmas.Bool.{cases_eq}
 use Rattle.std.proofs.lemmas.Int.{ints}
 use Rattle.colour_graph.specs.Graph.{IsScore}
-use Rattle.price_bound.specs.inside.Exact.{IsAmount, IsGain, number_in}
+use Rattle.price_bound.specs.inside.Exact.{IsAmount, IsGainAmount, number_in}
 
 pub number_in-same : (numbers : List ℤ) (place : ℕ) (number : ℤ) → place < length numbers → number_in (slice_set numbers place number) place ≡ number
 number_in-same numbers place number within = get_or-set_same numbers place number (pos 0) within
@@ -38,7 +38,7 @@ fits : (z : ℤ) → pos 0 ≤ℤ z → z ≤ℤ pos 1000000000100000 → SFits 
 fits (pos n) low high = record { sfits = omega (arith, ints) }
 fits (negsuc n) low high = record { sfits = omega (arith, ints) }
 
-pub SFits-gain : (gain : ℤ) → IsGain gain → SFits w64 gain
+pub SFits-gain : (gain : ℤ) → IsGainAmount gain → SFits w64 gain
 SFits-gain gain is = fits gain is.not_below is.not_above
 
 pub SFits-amount : (number : ℤ) → IsAmount number → SFits w64 number

@@ -14,7 +14,7 @@ use Rattle.colour_graph.proofs.Order.{colour-le_count}
 use Rattle.tree_certificate.specs.BoundHolds.{IsDecided}
 use Rattle.tree_certificate.specs.PriceHolds.{edges_between, gain_by, gain_of}
 use Rattle.tree_certificate.proofs.Sums.{IsIn, sum_of}
-use Rattle.price_bound.specs.inside.Exact.{AreExactAbove, IsTooHigh, cert_of, gained_above, number_in}
+use Rattle.price_bound.specs.inside.Exact.{AreExactAbove, IsTooHigh, cert_with, gained_above, number_in}
 use Rattle.price_bound.proofs.Adding.{gained_above-more, map-same}
 use Rattle.price_bound.proofs.Edges.{IsInto, colours-few, edges_between-in, edges_into-in, in-edges_between, in-edges_into, range-in, weight_at}
 use Rattle.price_bound.proofs.Greatest.{greatest-high, greatest-low}
@@ -39,7 +39,7 @@ pub data IsHeld (graph : Graph) (allowed : List Bool) (owner : ℕ → ℕ) (low
 pub record Owners (graph : Graph) (allowed : List Bool) (prices : List ℤ) (potentials : List ℤ) (low : ℕ) : Type 0 where
   pub owner : ℕ → ℕ
   pub sums : (vertex : ℕ) → vertex < length graph.colours → colour_of graph vertex ≤ low
-      → gained_above graph allowed (cert_of prices potentials) low vertex ≡ worth graph allowed owner low vertex
+      → gained_above graph allowed (cert_with prices potentials) low vertex ≡ worth graph allowed owner low vertex
   pub edges : (colour vertex : ℕ) → low < colour → colour ≤ colour_count graph → vertex < length graph.colours → colour_of graph vertex ≤ low → owner colour ≡ vertex
       → IsInto graph allowed colour (edge_into graph allowed colour)
   pub tails : (colour vertex : ℕ) → low < colour → colour ≤ colour_count graph → vertex < length graph.colours → colour_of graph vertex ≤ low → owner colour ≡ vertex
@@ -73,7 +73,7 @@ worth-more graph allowed owner low vertex counted = ap (λ m. sum_of f (range_wi
 
 -- Nobody gains by the next colour: nobody owns it.
 owners-without : (graph : Graph) (allowed : List Bool) (prices potentials : List ℤ) (low : ℕ) → low + 1 ≤ colour_count graph
-    → ((v : ℕ) → gain_of graph allowed (cert_of prices potentials) v (low + 1) ≡ pos 0)
+    → ((v : ℕ) → gain_of graph allowed (cert_with prices potentials) v (low + 1) ≡ pos 0)
     → Owners graph allowed prices potentials (low + 1) → Owners graph allowed prices potentials low
 owners-without graph allowed prices potentials low counted none later = record { owner = owner; sums = sums; edges = edges; tails = tails }
   where
@@ -92,10 +92,10 @@ owners-without graph allowed prices potentials low counted none later = record {
         (λ c is_in. ap (λ o. cond (eqb o vertex) (weight_at graph (edge_into graph allowed c)) (pos 0)) (there c (λ is. omega (arith, is, (range-in (low + 1 + 1) (colour_count graph - (low + 1)) c is_in).0)))))
 
     sums : (vertex : ℕ) → vertex < length graph.colours → colour_of graph vertex ≤ low
-        → gained_above graph allowed (cert_of prices potentials) low vertex ≡ worth graph allowed owner low vertex
+        → gained_above graph allowed (cert_with prices potentials) low vertex ≡ worth graph allowed owner low vertex
     sums vertex within own =
         gained_above-more graph allowed prices potentials vertex (low + 1) low refl counted
-        ∙ ap (λ n. n +ℤ gained_above graph allowed (cert_of prices potentials) (low + 1) vertex) (none vertex)
+        ∙ ap (λ n. n +ℤ gained_above graph allowed (cert_with prices potentials) (low + 1) vertex) (none vertex)
         ∙ ap (λ n. pos 0 +ℤ n) (later.sums vertex within (omega (arith, own)) ∙ sym (same vertex))
         ∙ ap (λ b. cond b (weight_at graph (edge_into graph allowed (low + 1))) (pos 0) +ℤ worth graph allowed owner (low + 1) vertex)
         (sym (ne_eqb (owner (low + 1)) vertex (λ is. omega (arith, is, here, within))))
@@ -160,10 +160,10 @@ others owner tail head vertex not_tail not_head = choose (cases_eq owner head)
 
 -- The tail of the edge into the next colour gains by it, and nobody else does: it owns that colour and all that the head owned.
 owners-with : (graph : Graph) (allowed : List Bool) (prices potentials : List ℤ) (base low : ℕ) → IsGraph graph → low + 1 ≤ colour_count graph
-    → AreExactAbove graph allowed (cert_of prices potentials) base → base ≤ low → IsInto graph allowed (low + 1) (edge_into graph allowed (low + 1))
-    → gain_of graph allowed (cert_of prices potentials) (edge_at graph (edge_into graph allowed (low + 1))).tail (low + 1)
+    → AreExactAbove graph allowed (cert_with prices potentials) base → base ≤ low → IsInto graph allowed (low + 1) (edge_into graph allowed (low + 1))
+    → gain_of graph allowed (cert_with prices potentials) (edge_at graph (edge_into graph allowed (low + 1))).tail (low + 1)
     ≡ weight_at graph (edge_into graph allowed (low + 1)) +ℤ number_in potentials (edge_at graph (edge_into graph allowed (low + 1))).head
-    → ((v : ℕ) → v ≢ (edge_at graph (edge_into graph allowed (low + 1))).tail → gain_of graph allowed (cert_of prices potentials) v (low + 1) ≡ pos 0)
+    → ((v : ℕ) → v ≢ (edge_at graph (edge_into graph allowed (low + 1))).tail → gain_of graph allowed (cert_with prices potentials) v (low + 1) ≡ pos 0)
     → Owners graph allowed prices potentials (low + 1) → Owners graph allowed prices potentials low
 owners-with graph allowed prices potentials base low is counted exact first into gain none later = record { owner = owner; sums = sums; edges = edges; tails = tails }
   where
@@ -228,17 +228,17 @@ owners-with graph allowed prices potentials base low is counted exact first into
     nothing n = omega (arith, ints)
 
     sums : (vertex : ℕ) → vertex < length graph.colours → colour_of graph vertex ≤ low
-        → gained_above graph allowed (cert_of prices potentials) low vertex ≡ worth graph allowed owner low vertex
+        → gained_above graph allowed (cert_with prices potentials) low vertex ≡ worth graph allowed owner low vertex
     sums vertex within own = choose (cases_eq vertex tail)
       where
-        split : gained_above graph allowed (cert_of prices potentials) low vertex
-            ≡ gain_of graph allowed (cert_of prices potentials) vertex (low + 1) +ℤ worth graph allowed later.owner (low + 1) vertex
+        split : gained_above graph allowed (cert_with prices potentials) low vertex
+            ≡ gain_of graph allowed (cert_with prices potentials) vertex (low + 1) +ℤ worth graph allowed later.owner (low + 1) vertex
         split = gained_above-more graph allowed prices potentials vertex (low + 1) low refl counted
-            ∙ ap (λ n. gain_of graph allowed (cert_of prices potentials) vertex (low + 1) +ℤ n) (later.sums vertex within (omega (arith, own)))
+            ∙ ap (λ n. gain_of graph allowed (cert_with prices potentials) vertex (low + 1) +ℤ n) (later.sums vertex within (omega (arith, own)))
 
-        choose : (vertex ≡ tail) ⊎ (vertex ≡ tail → ⊥) → gained_above graph allowed (cert_of prices potentials) low vertex ≡ worth graph allowed owner low vertex
+        choose : (vertex ≡ tail) ⊎ (vertex ≡ tail → ⊥) → gained_above graph allowed (cert_with prices potentials) low vertex ≡ worth graph allowed owner low vertex
         choose (inl at) =
-            split ∙ ap (λ v. gain_of graph allowed (cert_of prices potentials) v (low + 1) +ℤ worth graph allowed later.owner (low + 1) v) at
+            split ∙ ap (λ v. gain_of graph allowed (cert_with prices potentials) v (low + 1) +ℤ worth graph allowed later.owner (low + 1) v) at
             ∙ ap (λ n. n +ℤ worth graph allowed later.owner (low + 1) tail) (gain ∙ ap (λ n. weight (low + 1) +ℤ n) head_gains)
             ∙ regrouped (weight (low + 1)) (worth graph allowed later.owner (low + 1) tail) (worth graph allowed later.owner (low + 1) head)
             ∙ ap (λ n. weight (low + 1) +ℤ n) (sym of_tail)
@@ -305,21 +305,21 @@ same_number : (a b : ℤ) → a ≤ℤ b → b ≤ℤ a → a ≡ b
 same_number a b one other = omega (arith, ints)
 
 gain-none : (graph : Graph) (allowed : List Bool) (prices potentials : List ℤ) (vertex colour : ℕ)
-    → ((edge : ℕ) → IsIn edge (edges_between graph allowed vertex colour) → gain_by graph (cert_of prices potentials) colour edge ≤ℤ pos 0)
-    → gain_of graph allowed (cert_of prices potentials) vertex colour ≡ pos 0
+    → ((edge : ℕ) → IsIn edge (edges_between graph allowed vertex colour) → gain_by graph (cert_with prices potentials) colour edge ≤ℤ pos 0)
+    → gain_of graph allowed (cert_with prices potentials) vertex colour ≡ pos 0
 gain-none graph allowed prices potentials vertex colour low =
-    same_number (gain_of graph allowed (cert_of prices potentials) vertex colour) (pos 0)
-    (greatest-low (gain_by graph (cert_of prices potentials) colour) (pos 0) (edges_between graph allowed vertex colour) (omega (arith, ints)) low)
-    (greatest-high (gain_by graph (cert_of prices potentials) colour) (edges_between graph allowed vertex colour)).0
+    same_number (gain_of graph allowed (cert_with prices potentials) vertex colour) (pos 0)
+    (greatest-low (gain_by graph (cert_with prices potentials) colour) (pos 0) (edges_between graph allowed vertex colour) (omega (arith, ints)) low)
+    (greatest-high (gain_by graph (cert_with prices potentials) colour) (edges_between graph allowed vertex colour)).0
 
 gain-one : (graph : Graph) (allowed : List Bool) (prices potentials : List ℤ) (vertex colour one : ℕ) (gain : ℤ) → pos 0 <ℤ gain → IsIn one (edges_between graph allowed vertex colour)
-    → gain_by graph (cert_of prices potentials) colour one ≡ gain
-    → ((edge : ℕ) → IsIn edge (edges_between graph allowed vertex colour) → gain_by graph (cert_of prices potentials) colour edge ≡ gain)
-    → gain_of graph allowed (cert_of prices potentials) vertex colour ≡ gain
+    → gain_by graph (cert_with prices potentials) colour one ≡ gain
+    → ((edge : ℕ) → IsIn edge (edges_between graph allowed vertex colour) → gain_by graph (cert_with prices potentials) colour edge ≡ gain)
+    → gain_of graph allowed (cert_with prices potentials) vertex colour ≡ gain
 gain-one graph allowed prices potentials vertex colour one gain some is_in is each =
-    same_number (gain_of graph allowed (cert_of prices potentials) vertex colour) gain
-    (greatest-low (gain_by graph (cert_of prices potentials) colour) gain (edges_between graph allowed vertex colour) (omega (arith, ints)) (λ edge at. rw (each edge at) (self gain)))
-    (rw is at ((greatest-high (gain_by graph (cert_of prices potentials) colour) (edges_between graph allowed vertex colour)).1 one is_in))
+    same_number (gain_of graph allowed (cert_with prices potentials) vertex colour) gain
+    (greatest-low (gain_by graph (cert_with prices potentials) colour) gain (edges_between graph allowed vertex colour) (omega (arith, ints)) (λ edge at. rw (each edge at) (self gain)))
+    (rw is at ((greatest-high (gain_by graph (cert_with prices potentials) colour) (edges_between graph allowed vertex colour)).1 one is_in))
   where
     self : (n : ℤ) → n ≤ℤ n
     self n = omega (arith, ints)
@@ -334,7 +334,7 @@ free_gain : (weight price potential : ℤ) → price ≡ pos 0 → (weight -ℤ 
 free_gain weight price potential is = omega (arith, ints)
 
 owners-more : (graph : Graph) (allowed : List Bool) (prices potentials : List ℤ) (base low : ℕ) → IsGraph graph → IsDecided graph allowed → ((place : ℕ) → number_in prices place ≡ pos 0)
-    → low + 1 ≤ colour_count graph → AreExactAbove graph allowed (cert_of prices potentials) base → base ≤ low
+    → low + 1 ≤ colour_count graph → AreExactAbove graph allowed (cert_with prices potentials) base → base ≤ low
     → Owners graph allowed prices potentials (low + 1) → Owners graph allowed prices potentials low
 owners-more graph allowed prices potentials base low is decided free counted exact first later = choose (empty_or_one (edges_into graph allowed (low + 1)) (decided (low + 1) (omega arith) counted))
   where
@@ -361,11 +361,11 @@ owners-more graph allowed prices potentials base low is decided free counted exa
             pick (inl same) = same
             pick (inr none) = absurd none
 
-        gain_is : gain_by graph (cert_of prices potentials) (low + 1) edge ≡ gain
+        gain_is : gain_by graph (cert_with prices potentials) (low + 1) edge ≡ gain
         gain_is = free_gain (weight_at graph edge) (number_in prices (low + 1 - 1)) (number_in potentials (edge_at graph edge).head) (free (low + 1 - 1))
 
-        each : (v e : ℕ) → IsIn e (edges_between graph allowed v (low + 1)) → gain_by graph (cert_of prices potentials) (low + 1) e ≡ gain
-        each v e at = ap (λ n. gain_by graph (cert_of prices potentials) (low + 1) n) (is_it v e at) ∙ gain_is
+        each : (v e : ℕ) → IsIn e (edges_between graph allowed v (low + 1)) → gain_by graph (cert_with prices potentials) (low + 1) e ≡ gain
+        each v e at = ap (λ n. gain_by graph (cert_with prices potentials) (low + 1) n) (is_it v e at) ∙ gain_is
 
         not_positive : gain ≤ℤ pos 0 → Owners graph allowed prices potentials low
         not_positive low_gain = owners-without graph allowed prices potentials low counted (λ v. gain-none graph allowed prices potentials v (low + 1) (λ e at. rw (each v e at) low_gain)) later
@@ -379,7 +379,7 @@ owners-more graph allowed prices potentials base low is decided free counted exa
             later
 
 pub owners-at : (graph : Graph) (allowed : List Bool) (prices potentials : List ℤ) (base low more : ℕ) → IsGraph graph → IsDecided graph allowed → ((place : ℕ) → number_in prices place ≡ pos 0)
-    → AreExactAbove graph allowed (cert_of prices potentials) base → base ≤ low → low + more ≡ colour_count graph → Owners graph allowed prices potentials low
+    → AreExactAbove graph allowed (cert_with prices potentials) base → base ≤ low → low + more ≡ colour_count graph → Owners graph allowed prices potentials low
 owners-at graph allowed prices potentials base low zero is decided free exact first last =
     subst (λ (c : ℕ). Owners graph allowed prices potentials c) (ended low (colour_count graph) last) (owners-last graph allowed prices potentials)
   where
@@ -422,7 +422,7 @@ not_high-decided graph allowed prices is few decided free high = choose (cases_l
     counted = omega (arith, colours-few graph is.colours, few)
 
     low_at : (low : ℕ) → high.colour ≤ low → colour_of graph high.vertex ≤ low → low ≤ colour_count graph
-        → number_in high.potentials high.vertex ≡ gained_above graph allowed (cert_of prices high.potentials) low high.vertex → ⊥
+        → number_in high.potentials high.vertex ≡ gained_above graph allowed (cert_with prices high.potentials) low high.vertex → ⊥
     low_at low first own last sum =
         let owners = owners-at graph allowed prices high.potentials high.colour low (colour_count graph - low) is decided free high.exact first (omega (arith, last)) in
         too_low (number_in high.potentials high.vertex) (colour_count graph - low) (omega (arith, counted))

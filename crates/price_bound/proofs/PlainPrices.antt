@@ -6,9 +6,9 @@ use Rattle.std.proofs.lemmas.List.{get_or_default, length-replicate}
 use Rattle.colour_graph.specs.Colourful.{total}
 use Rattle.colour_graph.specs.Graph.{Graph, IsGraph, colour_count}
 use Rattle.tree_certificate.specs.BoundHolds.{IsDecided}
-use Rattle.tree_certificate.specs.PriceHolds.{PriceHolds, price_total}
+use Rattle.tree_certificate.specs.PriceHolds.{FitsPrices, PriceHolds, price_total}
 use Rattle.price_bound.specs.Plain.{IsPlain, IsTreeScore}
-use Rattle.price_bound.specs.inside.Exact.{AreAmounts, AreExactAbove, IsTooHigh, cert_of, number_in}
+use Rattle.price_bound.specs.inside.Exact.{AreAmounts, AreExactAbove, IsTooHigh, cert_with, number_in}
 use Rattle.price_bound.proofs.Keeping.{clear-replicate, holds-exact, needed-is}
 use Rattle.price_bound.proofs.LowPotentials.{not_high-few}
 use Rattle.price_bound.proofs.Numbers.{IsAmount-zero}
@@ -24,7 +24,7 @@ total-replicate (suc count) = nothing (total (replicate count (pos 0))) ∙ tota
 
 -- what is known once the potentials are written
 pub record AreWritten (graph : Graph) (allowed : List Bool) (prices potentials : List ℤ) (low : Bool) : Type 0 where
-  pub exact : low ≡ true → AreExactAbove graph allowed (cert_of prices potentials) 0
+  pub exact : low ≡ true → AreExactAbove graph allowed (cert_with prices potentials) 0
   pub amounts : low ≡ true → AreAmounts potentials
   pub high : low ≡ false → IsTooHigh graph allowed prices
 
@@ -32,9 +32,9 @@ pub record AreWritten (graph : Graph) (allowed : List Bool) (prices potentials :
 pub record ArePlain (graph : Graph) (allowed : List Bool) (prices potentials : List ℤ) : Type 0 where
   pub price_amounts : AreAmounts prices
   pub potential_amounts : AreAmounts potentials
-  pub plain : IsPlain graph allowed (cert_of prices potentials)
-  pub holds : PriceHolds graph allowed (cert_of prices potentials)
-  pub tree : IsDecided graph allowed → IsTreeScore graph allowed (price_total graph (cert_of prices potentials))
+  pub plain : IsPlain graph allowed (cert_with prices potentials)
+  pub holds : PriceHolds graph allowed (cert_with prices potentials)
+  pub tree : IsDecided graph allowed → IsTreeScore graph allowed (price_total graph (cert_with prices potentials))
 
 pub ArePlain-written : (graph : Graph) (allowed : List Bool) (count : ℕ) (prices potentials : List ℤ) (low : Bool) → prices ≡ replicate count (pos 0) → count ≡ colour_count graph
     → length potentials ≡ length graph.colours → IsGraph graph → length graph.colours ≤ 512 → (colour_count graph ≤ 12) ⊎ IsDecided graph allowed
@@ -54,8 +54,8 @@ ArePlain-written graph allowed count prices potentials low zeros counted long is
         pick (inl twelve) = not_high-few graph allowed prices is twelve not_below high
         pick (inr one) = not_high-decided graph allowed prices is few one free high
 
-    price_count : length prices ≡ colour_count graph
-    price_count = ap length zeros ∙ length-replicate count (pos 0) ∙ counted
+    fits : FitsPrices graph (cert_with prices potentials)
+    fits = record { price_count = ap length zeros ∙ length-replicate count (pos 0) ∙ counted; potential_count = long }
 
     amounts : AreAmounts prices
     amounts place = rw (free place) IsAmount-zero
@@ -65,12 +65,11 @@ ArePlain-written graph allowed count prices potentials low zeros counted long is
       price_amounts = amounts;
       potential_amounts = written.amounts true_is;
       plain = record {
-        price_count = price_count;
-        potential_count = long;
+        fits = fits;
         prices = λ k d within. get_or_default prices k d (pos 0) within ∙ free k;
         potentials = λ vertex within. written.exact true_is vertex within ∙ needed-is graph allowed prices potentials vertex;
       };
-      holds = holds-exact graph allowed prices potentials price_count long amounts (written.exact true_is);
+      holds = holds-exact graph allowed prices potentials fits amounts (written.exact true_is);
       tree = λ one. tree-plain graph allowed prices potentials is one free (ap total zeros ∙ total-replicate count) (written.exact true_is);
     }
 

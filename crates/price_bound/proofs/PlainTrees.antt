@@ -16,7 +16,7 @@ use Rattle.tree_certificate.specs.PriceHolds.{price_total}
 use Rattle.tree_certificate.proofs.Members.{IsIn-filter, IsIn-map, IsIn-range}
 use Rattle.tree_certificate.proofs.Sums.{IsIn, sum_of}
 use Rattle.price_bound.specs.Plain.{IsTreeScore}
-use Rattle.price_bound.specs.inside.Exact.{AreExactAbove, cert_of, number_in}
+use Rattle.price_bound.specs.inside.Exact.{AreExactAbove, cert_with, number_in}
 use Rattle.price_bound.proofs.Edges.{IsInto, filter-in, range-in, weight_at}
 use Rattle.price_bound.proofs.Owning.{IsHeld, Owners, at_owned, at_vertex, edge_into, owners-at}
 
@@ -68,7 +68,7 @@ minus_zero : (n : ℕ) → n - 0 ≡ n
 minus_zero n = omega arith
 
 pub tree-plain : (graph : Graph) (allowed : List Bool) (prices potentials : List ℤ) → IsGraph graph → IsDecided graph allowed → ((place : ℕ) → number_in prices place ≡ pos 0)
-    → total prices ≡ pos 0 → AreExactAbove graph allowed (cert_of prices potentials) 0 → IsTreeScore graph allowed (price_total graph (cert_of prices potentials))
+    → total prices ≡ pos 0 → AreExactAbove graph allowed (cert_with prices potentials) 0 → IsTreeScore graph allowed (price_total graph (cert_with prices potentials))
 tree-plain graph allowed prices potentials is decided free no_price exact = record {
   edges = edges;
   colourful = record { in_range = in_range; one_of_a_colour = one_of_a_colour; tails = tails };
@@ -129,7 +129,7 @@ tree-plain graph allowed prices potentials is decided free no_price exact = reco
     nothing : (n : ℤ) → n ≡ n +ℤ pos 0
     nothing n = omega (arith, ints)
 
-    reached : score_of graph edges ≡ price_total graph (cert_of prices potentials)
+    reached : score_of graph edges ≡ price_total graph (cert_with prices potentials)
     reached =
         ap (λ n. graph.root_score +ℤ n) (total-chosen test (edge_into graph allowed) (weight_at graph) (colours_of graph) ∙ sym root_potential ∙ nothing (number_in potentials 0)
         ∙ ap (λ n. number_in potentials 0 +ℤ n) (sym no_price))

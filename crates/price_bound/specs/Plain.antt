@@ -3,14 +3,13 @@ use Rattle.std.specs.Prelude.{◌≡◌, ◌<◌, ℕ, ℤ, pos, Bool, IsTrue, L
 use Rattle.std.specs.List.{All}
 use Rattle.colour_graph.specs.Colourful.{IsColourful, score_of}
 use Rattle.colour_graph.specs.EdgeSet.{is_allowed}
-use Rattle.colour_graph.specs.Graph.{Graph, colour_count}
+use Rattle.colour_graph.specs.Graph.{Graph}
 use Rattle.tree_certificate.specs.BoundValue.{PriceValue}
-use Rattle.tree_certificate.specs.PriceHolds.{needed_of, potential_of}
+use Rattle.tree_certificate.specs.PriceHolds.{FitsPrices, needed_of, potential_of}
 
 -- each price is 0, and each potential is just what it is to be at least
 pub record IsPlain (graph : Graph) (allowed : List Bool) (cert : PriceValue) : Type 0 where
-  pub price_count : length cert.prices ≡ colour_count graph
-  pub potential_count : length cert.potentials ≡ length graph.colours
+  pub fits : FitsPrices graph cert
   pub prices : All (λ price. price ≡ pos 0) cert.prices
   pub potentials : (vertex : ℕ) → vertex < length graph.colours
       → potential_of cert vertex ≡ needed_of graph allowed cert vertex

@@ -2,13 +2,14 @@
 ghost use Rattle.std.specs.Prelude.{◌≡◌, ◌≤◌, ◌<◌, ◌+ℤ◌, ◌-ℤ◌, ◌<ℤ◌, ℕ, pos, false, length, true};
 ghost use Rattle.colour_graph.specs.EdgeSet.{IsSetOf};
 ghost use Rattle.colour_graph.specs.Graph.{IsScore, colour_count};
-ghost use Rattle.price_bound.specs.inside.Exact.{AreAmounts, AreClear, AreExactAbove, AreGains, IsAmount, IsGain};
-ghost use Rattle.price_bound.specs.inside.Exact.{IsGreater, IsTooHigh, cert_of, gain_at, number_in};
+ghost use Rattle.price_bound.specs.inside.Exact.{AreAmounts, AreClear, AreExactAbove, AreGainAmounts, IsAmount};
+ghost use Rattle.price_bound.specs.inside.Exact.{IsGainAmount, IsGreater, IsTooHigh, cert_with, gain_at, number_in};
 
 use colour_graph::{Allowed, Colour, ColourGraph};
+use tree_certificate::GREATEST_NUMBER;
 
 /// The greatest number that may stand in a certificate.
-const GREATEST: i64 = 1_000_000_000_000_000;
+const GREATEST: i64 = GREATEST_NUMBER as i64;
 
 /// Writes the least potentials for some prices and tells true; tells false where one is too great for a certificate.
 /// The gains are a buffer, all 0 before and after.
@@ -26,7 +27,7 @@ pub(crate) fn set_potentials(
     requires gain_count { length gains.old ≡ length graph.now.colours }
     requires clear { AreClear gains.old }
     ensures exact { result ≡ true
-        → AreExactAbove graph.now allowed.now (cert_of prices.now potentials.new) 0 }
+        → AreExactAbove graph.now allowed.now (cert_with prices.now potentials.new) 0 }
     ensures low { result ≡ true → AreAmounts potentials.new }
     ensures high { result ≡ false → IsTooHigh graph.now allowed.now prices.now }
     ensures clear { AreClear gains.new }
@@ -72,7 +73,7 @@ fn gather_gains(
     requires clear { AreClear gains.old }
     ensures gains { (vertex : ℕ) → vertex < length graph.now.colours
         → number_in gains.new vertex ≡ gain_at graph.now allowed.now colour price potentials.now vertex }
-    ensures near { AreGains gains.new }
+    ensures near { AreGainAmounts gains.new }
 {
     let (first, past) = graph.edges_into(colour);
     for place in first..past {
@@ -92,12 +93,12 @@ fn gather_gains(
 /// The greater of a gain and what is gained by an edge of a weight at a price, whose head has a potential.
 #[inline(always)]
 fn raised(gain: i64, weight: i32, price: i64, potential: i64) -> i64
-    requires gain { IsGain gain }
+    requires gain { IsGainAmount gain }
     requires weight { IsScore weight }
     requires price { IsAmount price }
     requires potential { IsAmount potential }
     ensures greater { IsGreater result gain ((weight -ℤ price) +ℤ potential) }
-    ensures near { IsGain result }
+    ensures near { IsGainAmount result }
 {
     let sum = i64::from(weight) - price + potential;
     if sum > gain { sum } else { gain }
@@ -107,7 +108,7 @@ fn raised(gain: i64, weight: i32, price: i64, potential: i64) -> i64
 fn add_gains(potentials: &mut [i64], gains: &mut [i64]) -> bool
     requires same_length { length gains.old ≡ length potentials.old }
     requires potentials { AreAmounts potentials.old }
-    requires gains { AreGains gains.old }
+    requires gains { AreGainAmounts gains.old }
     ensures added { (place : ℕ) → number_in potentials.new place
         ≡ number_in potentials.old place +ℤ number_in gains.old place }
     ensures clear { AreClear gains.new }
@@ -131,7 +132,7 @@ fn add_gains(potentials: &mut [i64], gains: &mut [i64]) -> bool
 #[inline(always)]
 fn added(potential: i64, gain: i64) -> i64
     requires potential { IsAmount potential }
-    requires gain { IsGain gain }
+    requires gain { IsGainAmount gain }
     ensures { result ≡ potential +ℤ gain }
 {
     potential + gain

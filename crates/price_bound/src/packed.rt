@@ -3,7 +3,7 @@
 ghost use Rattle.std.specs.Prelude.{◌≤◌, ◌<◌, ◌^◌, IfOk, length};
 ghost use Rattle.std.specs.List.{All};
 ghost use Rattle.colour_graph.specs.EdgeSet.{IsSetOf};
-ghost use Rattle.price_bound.specs.inside.Packed.{AreHeld, IsPacked, IsRow, IsScaled};
+ghost use Rattle.price_bound.specs.inside.Packed.{AreHeld, IsPacked, IsGroup, IsScaled};
 
 use colour_graph::{Allowed, ColourGraph, VertexId};
 use std::alloc::{AllocError, Global};
@@ -110,7 +110,7 @@ impl Packed {
     #[inline(always)]
     fn best_of(&self, group: Group, potentials: &Numbers) -> (i64, VertexId)
         requires packed { IsPacked self.now }
-        requires row { IsRow (length self.now.edges.items) group }
+        requires group { IsGroup (length self.now.edges.items) group }
         requires held { AreHeld potentials.now }
         ensures head { result.1 < 512 }
     {
@@ -196,7 +196,7 @@ fn groups_of(alloc: Global, graph: &ColourGraph, edges: &[Scaled]) -> Result<Vec
     requires vertices { length graph.now.colours ≤ 512 }
     requires edges { All (IsScaled (length graph.now.colours)) edges.now }
     requires few { length edges.now < 2 ^ 32 }
-    ensures { IfOk result (λ groups. All (IsRow (length edges.now)) groups.items) }
+    ensures { IfOk result (λ groups. All (IsGroup (length edges.now)) groups.items) }
 {
     let _edges_in_all = graph.edge_count();
     let mut groups = Vec::new(alloc);

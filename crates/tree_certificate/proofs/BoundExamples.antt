@@ -8,7 +8,7 @@ use Rattle.colour_graph.specs.EdgeSet.{all_edges, edges_into, leaving, only}
 use Rattle.colour_graph.specs.Graph.{Graph}
 use Rattle.tree_certificate.specs.BoundHolds.{BoundHolds, IsDecided, IsSplit, depth_of, splits_of}
 use Rattle.tree_certificate.specs.BoundValue.{BoundValue, PriceValue, priced, split}
-use Rattle.tree_certificate.specs.PriceHolds.{PriceHolds, gain_of, needed_of, potential_of, price_total}
+use Rattle.tree_certificate.specs.PriceHolds.{AreNotNegative, FitsPrices, PriceHolds, gain_of, needed_of, potential_of, price_total}
 
 abbrev joining : ℕ → ℕ → ℤ → Edge
 joining tail head weight = record { tail = tail; head = head; weight = weight }
@@ -26,7 +26,10 @@ abbrev costing : ℕ → ℕ → ℕ → ℕ → PriceValue
 costing one two of_root of_second =
     record { prices = pos one ∷ pos two ∷ []; potentials = pos of_root ∷ pos 0 ∷ pos of_second ∷ pos 0 ∷ [] }
 
-not_below_0 : (one two of_root of_second : ℕ) → All (λ price. pos 0 ≤ℤ price) (costing one two of_root of_second).prices
+as_many : {one two of_root of_second : ℕ} → FitsPrices trap (costing one two of_root of_second)
+as_many = record { price_count = refl; potential_count = refl }
+
+not_below_0 : (one two of_root of_second : ℕ) → AreNotNegative (costing one two of_root of_second).prices
 not_below_0 one two of_root of_second zero d within = omega (arith, ints)
 not_below_0 one two of_root of_second (suc zero) d within = omega (arith, ints)
 not_below_0 one two of_root of_second (suc (suc colour)) d within = absurd (omega arith)
@@ -44,7 +47,7 @@ no_potentials (suc (suc (suc (suc vertex)))) within = absurd (omega arith)
 
 PriceHolds-without_heaviest : PriceHolds trap without_heaviest (costing 4 3 0 0)
 PriceHolds-without_heaviest =
-    record { price_count = refl; potential_count = refl; prices = not_below_0 4 3 0 0; potentials = no_potentials }
+    record { fits = as_many; prices = not_below_0 4 3 0 0; potentials = no_potentials }
 
 price_total-without_heaviest : price_total trap (costing 4 3 0 0) ≡ pos 7
 price_total-without_heaviest = refl
@@ -71,7 +74,7 @@ potentials_of_all (suc (suc (suc zero))) within = omega (arith, ints)
 potentials_of_all (suc (suc (suc (suc vertex)))) within = absurd (omega arith)
 
 PriceHolds-all : PriceHolds trap (all_edges trap) (costing 0 1 6 2)
-PriceHolds-all = record { price_count = refl; potential_count = refl; prices = not_below_0 0 1 6 2; potentials = potentials_of_all }
+PriceHolds-all = record { fits = as_many; prices = not_below_0 0 1 6 2; potentials = potentials_of_all }
 
 BoundHolds-all : BoundHolds trap (all_edges trap) (priced (costing 0 1 6 2)) (pos 7)
 BoundHolds-all = (PriceHolds-all, omega (arith, ints))
@@ -140,7 +143,7 @@ potentials_of_rest (suc (suc (suc (suc vertex)))) within = absurd (omega arith)
 
 PriceHolds-without_second : PriceHolds trap without_second (costing 0 0 6 3)
 PriceHolds-without_second =
-    record { price_count = refl; potential_count = refl; prices = not_below_0 0 0 6 3; potentials = potentials_of_rest }
+    record { fits = as_many; prices = not_below_0 0 0 6 3; potentials = potentials_of_rest }
 
 BoundHolds-sides : BoundHolds trap (all_edges trap) sides (pos 7)
 BoundHolds-sides =

@@ -100,7 +100,7 @@ pub prices_hold_bounds : (graph : Graph) (allowed : List Bool) (cert : PriceValu
     → IsBounded graph allowed upper
 prices_hold_bounds graph allowed cert upper is holds most =
     prices_bound graph allowed (price_of cert) (gain_of graph allowed cert) (potential_of cert) (Pays-prices graph allowed cert holds) upper is
-    (same graph.root_score (potential_of cert 0) (sum_of (price_of cert) (colours_of graph)) (total cert.prices) upper (sum_of-prices graph cert holds.price_count) most)
+    (same graph.root_score (potential_of cert 0) (sum_of (price_of cert) (colours_of graph)) (total cert.prices) upper (sum_of-prices graph cert holds.fits.price_count) most)
   where
     same : (root potential prices all upper : ℤ) → prices ≡ all → (root +ℤ (potential +ℤ all)) ≤ℤ upper → (root +ℤ (potential +ℤ prices)) ≤ℤ upper
     same root potential prices all upper is most = rw is most

@@ -35,11 +35,19 @@ gain_of graph allowed cert vertex colour =
 abbrev pub needed_of : Graph → List Bool → PriceValue → ℕ → ℤ
 needed_of graph allowed cert vertex = total (map (gain_of graph allowed cert vertex) (colours_of graph))
 
--- Prices and potentials hold on a set of edges. What a potential is to be at least is never below 0.
-pub record PriceHolds (graph : Graph) (allowed : List Bool) (cert : PriceValue) : Type 0 where
+-- there are as many prices as colours, and as many potentials as vertices
+pub record FitsPrices (graph : Graph) (cert : PriceValue) : Type 0 where
   pub price_count : length cert.prices ≡ colour_count graph
   pub potential_count : length cert.potentials ≡ length graph.colours
-  pub prices : All (λ price. pos 0 ≤ℤ price) cert.prices
+
+-- no price is below 0
+abbrev pub AreNotNegative : List ℤ → Type 0
+AreNotNegative prices = All (λ price. pos 0 ≤ℤ price) prices
+
+-- Prices and potentials hold on a set of edges. What a potential is to be at least is never below 0.
+pub record PriceHolds (graph : Graph) (allowed : List Bool) (cert : PriceValue) : Type 0 where
+  pub fits : FitsPrices graph cert
+  pub prices : AreNotNegative cert.prices
   pub potentials : (vertex : ℕ) → vertex < length graph.colours
       → needed_of graph allowed cert vertex ≤ℤ potential_of cert vertex
 

@@ -38,7 +38,7 @@ pub use fault::CertFault;
 pub use laws::{bytes_read_one_way, parts_make_the_spelling};
 pub use prices::PriceCert;
 pub use reading::read_document;
-pub use table::TableCert;
+pub use table::{GREATEST_NUMBER, TableCert};
 pub use title::push_escaped;
 pub use writer::{
     push_done, push_lists, push_skip, push_spectrum, write_ending, write_header, write_section,

@@ -3,7 +3,7 @@ ghost use Rattle.std.specs.Prelude.{◌≡◌, ◌↔◌, IsSome, IfSome};
 ghost use Rattle.std.specs.List.{list_all};
 ghost use Rattle.tree_certificate.specs.Number.{AreNear, greatest_number, is_near};
 
-use crate::table::is_row;
+use crate::table::are_near_zero;
 use std::marker::Model;
 
 /// A price for each colour of a graph, from 1 on, and a potential for each vertex: whole numbers within 10^15 of 0.
@@ -30,7 +30,7 @@ impl PriceCert {
         ensures some { IsSome result ↔ ((AreNear prices.items) × (AreNear potentials.items)) }
         ensures numbers { IfSome result (λ cert. cert ≡ record { prices = prices.items; potentials = potentials.items }) }
     {
-        if is_row(&prices) && is_row(&potentials) {
+        if are_near_zero(&prices) && are_near_zero(&potentials) {
             Some(PriceCert { prices, potentials })
         } else {
             None

@@ -60,14 +60,14 @@ impl TableCert {
 fn are_numbers(rows: &[Vec<i64>]) -> bool
     ensures { result ≡ list_all (λ row. list_all (is_near greatest_number) row.items) rows.now }
 {
-    rows.iter().all(|row| is_row(row.as_slice()))
+    rows.iter().all(|row| are_near_zero(row.as_slice()))
 }
 
-/// Whether all numbers of a row may stand in a certificate.
-pub(crate) fn is_row(row: &[i64]) -> bool
-    ensures { result ≡ list_all (is_near greatest_number) row.now }
+/// Whether all of some numbers may stand in a certificate.
+pub(crate) fn are_near_zero(numbers: &[i64]) -> bool
+    ensures { result ≡ list_all (is_near greatest_number) numbers.now }
 {
-    row.iter().all(|number| is_near_zero(*number))
+    numbers.iter().all(|number| is_near_zero(*number))
 }
 
 /// Whether a number may stand in a certificate.

@@ -11,8 +11,8 @@ use Rattle.tree_certificate.specs.PriceHolds.{edges_between, gain_of, potential_
 abbrev pub number_in : List ℤ → ℕ → ℤ
 number_in numbers place = slice_index_or numbers place (pos 0)
 
-abbrev pub cert_of : List ℤ → List ℤ → PriceValue
-cert_of prices potentials = record { prices = prices; potentials = potentials }
+abbrev pub cert_with : List ℤ → List ℤ → PriceValue
+cert_with prices potentials = record { prices = prices; potentials = potentials }
 
 -- a number of a certificate that is not below 0
 pub record IsAmount (number : ℤ) : Type 0 where
@@ -23,12 +23,12 @@ abbrev pub AreAmounts : List ℤ → Type 0
 AreAmounts numbers = (place : ℕ) → IsAmount (number_in numbers place)
 
 -- what a vertex gains by a colour, where its heads' potentials are amounts
-pub record IsGain (gain : ℤ) : Type 0 where
+pub record IsGainAmount (gain : ℤ) : Type 0 where
   pub not_below : pos 0 ≤ℤ gain
   pub not_above : gain ≤ℤ pos 1000000000100000
 
-abbrev pub AreGains : List ℤ → Type 0
-AreGains gains = (place : ℕ) → IsGain (number_in gains place)
+abbrev pub AreGainAmounts : List ℤ → Type 0
+AreGainAmounts gains = (place : ℕ) → IsGainAmount (number_in gains place)
 
 abbrev pub AreClear : List ℤ → Type 0
 AreClear numbers = (place : ℕ) → number_in numbers place ≡ pos 0
@@ -64,5 +64,5 @@ pub record IsTooHigh (graph : Graph) (allowed : List Bool) (prices : List ℤ) :
   pub vertex : ℕ
   pub counted : colour ≤ colour_count graph
   pub within : vertex < length graph.colours
-  pub exact : AreExactAbove graph allowed (cert_of prices potentials) colour
+  pub exact : AreExactAbove graph allowed (cert_with prices potentials) colour
   pub high : pos 1000000000000000 <ℤ number_in potentials vertex

@@ -3,12 +3,12 @@ use Rattle.std.specs.Prelude.{◌≡◌, ℤ, ◌≤ℤ◌, ℕ, Bool, List, len
 use Rattle.colour_graph.specs.Cap.{cap_of, greatest}
 use Rattle.colour_graph.specs.Colourful.{weights_of}
 use Rattle.colour_graph.specs.EdgeSet.{colours_of, edges_into}
-use Rattle.colour_graph.specs.Graph.{Graph, colour_count}
+use Rattle.colour_graph.specs.Graph.{Graph}
 use Rattle.price_bound.specs.declared.offers.Offers.{Offers}
 use Rattle.price_bound.specs.declared.offers.Priced.{Priced}
-use Rattle.price_bound.specs.inside.Exact.{AreAmounts, AreClear, cert_of}
+use Rattle.price_bound.specs.inside.Exact.{AreAmounts, AreClear, cert_with}
 use Rattle.tree_certificate.specs.BoundValue.{PriceValue}
-use Rattle.tree_certificate.specs.PriceHolds.{PriceHolds, price_total}
+use Rattle.tree_certificate.specs.PriceHolds.{FitsPrices, PriceHolds, price_total}
 
 -- the greatest weight of the edges of a set into a colour, or 0 where that is more
 abbrev pub best_into : Graph → List Bool → ℕ → ℤ
@@ -18,13 +18,12 @@ abbrev pub best_weights : Graph → List Bool → List ℤ
 best_weights graph allowed = map (best_into graph allowed) (colours_of graph)
 
 abbrev pub cert_in : Priced → PriceValue
-cert_in priced = cert_of priced.prices.items priced.potentials.items
+cert_in priced = cert_with priced.prices.items priced.potentials.items
 
 -- there are as many prices and potentials as a graph has colours and vertices, and the prices are amounts
 pub record HasRoom (graph : Graph) (priced : Priced) : Type 0 where
-  pub price_count : length priced.prices.items ≡ colour_count graph
+  pub fits : FitsPrices graph (cert_in priced)
   pub prices : AreAmounts priced.prices.items
-  pub potential_count : length priced.potentials.items ≡ length graph.colours
 
 -- they hold on a set, with their total, which is no more than the cap
 pub record IsKept (graph : Graph) (allowed : List Bool) (kept : Priced) : Type 0 where

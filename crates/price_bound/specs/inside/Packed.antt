@@ -11,8 +11,8 @@ pub record IsScaled (vertices : ℕ) (edge : Scaled) : Type 0 where
   pub tail : edge.tail < vertices
   pub head : edge.head < vertices
 
--- a row of so many edges
-pub record IsRow (edges : ℕ) (group : Group) : Type 0 where
+-- a group of so many edges
+pub record IsGroup (edges : ℕ) (group : Group) : Type 0 where
   pub tail : group.tail < 512
   pub colour : group.colour < 512
   pub in_order : group.first ≤ group.past
@@ -20,7 +20,7 @@ pub record IsRow (edges : ℕ) (group : Group) : Type 0 where
 
 pub record IsPacked (packed : Packed) : Type 0 where
   pub edges : All (IsScaled 512) packed.edges.items
-  pub groups : All (IsRow (length packed.edges.items)) packed.groups.items
+  pub groups : All (IsGroup (length packed.edges.items)) packed.groups.items
 
 -- a scaled potential
 pub record IsHeld (number : ℤ) : Type 0 where

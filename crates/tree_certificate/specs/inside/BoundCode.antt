@@ -8,9 +8,9 @@ use Rattle.tree_certificate.specs.BoundValue.{BoundValue, priced, split}
 abbrev pub Node : Type 0
 Node = (List ℤ × List ℤ) ⊎ (ℕ × List ℕ)
 
-abbrev pub nodes_of : BoundValue → List Node
-nodes_of (priced cert) = inl (cert.prices, cert.potentials) ∷ []
-nodes_of (split colour part first second) = inr (colour, part) ∷ (nodes_of first ++ nodes_of second)
+abbrev pub code_of : BoundValue → List Node
+code_of (priced cert) = inl (cert.prices, cert.potentials) ∷ []
+code_of (split colour part first second) = inr (colour, part) ∷ (code_of first ++ code_of second)
 
 abbrev pub joined : ℕ → List ℕ → List BoundValue → List BoundValue
 joined colour part (first ∷ second ∷ others) = split colour part first second ∷ others
@@ -22,20 +22,20 @@ bounds_of [] = []
 bounds_of (inl numbers ∷ nodes) = priced (record { prices = numbers.0; potentials = numbers.1 }) ∷ bounds_of nodes
 bounds_of (inr parts ∷ nodes) = joined parts.0 parts.1 (bounds_of nodes)
 
-abbrev pub first_of : List BoundValue → BoundValue
-first_of (bound ∷ others) = bound
-first_of [] = priced (record { prices = []; potentials = [] })
+abbrev pub first_bound : List BoundValue → BoundValue
+first_bound (bound ∷ others) = bound
+first_bound [] = priced (record { prices = []; potentials = [] })
 
-pub bounds_of_nodes : (bound : BoundValue) (nodes : List Node) → bounds_of (nodes_of bound ++ nodes) ≡ bound ∷ bounds_of nodes
-bounds_of_nodes (priced cert) nodes = refl
-bounds_of_nodes (split colour part first second) nodes =
-    ap (λ all. joined colour part (bounds_of all)) (append_assoc (nodes_of first) (nodes_of second) nodes)
-    ∙ ap (joined colour part) (bounds_of_nodes first (nodes_of second ++ nodes) ∙ ap (λ bounds. first ∷ bounds) (bounds_of_nodes second nodes))
+pub bounds_of_code : (bound : BoundValue) (nodes : List Node) → bounds_of (code_of bound ++ nodes) ≡ bound ∷ bounds_of nodes
+bounds_of_code (priced cert) nodes = refl
+bounds_of_code (split colour part first second) nodes =
+    ap (λ all. joined colour part (bounds_of all)) (append_assoc (code_of first) (code_of second) nodes)
+    ∙ ap (joined colour part) (bounds_of_code first (code_of second ++ nodes) ∙ ap (λ bounds. first ∷ bounds) (bounds_of_code second nodes))
 
-pub back : (bound : BoundValue) → first_of (bounds_of (nodes_of bound)) ≡ bound
-back bound = ap (λ nodes. first_of (bounds_of nodes)) (sym (append-nil (nodes_of bound))) ∙ ap first_of (bounds_of_nodes bound [])
+pub back : (bound : BoundValue) → first_bound (bounds_of (code_of bound)) ≡ bound
+back bound = ap (λ nodes. first_bound (bounds_of nodes)) (sym (append-nil (code_of bound))) ∙ ap first_bound (bounds_of_code bound [])
 
 abbrev pub bound_code : Coded BoundValue
 bound_code =
     code_by (List Node) (coded_list (coded⊎ (coded× (coded_list coded_ℤ) (coded_list coded_ℤ)) (coded× coded_ℕ (coded_list coded_ℕ))))
-    nodes_of (λ nodes. first_of (bounds_of nodes)) back
+    code_of (λ nodes. first_bound (bounds_of nodes)) back

@@ -22,16 +22,16 @@ loop-before-preserved c =
     let before = c.loop-before.before in
     let known = c.loop-before.invariant in
     let needed = c.loop-before.needed in
-    let gains = c.gather_gains.new.gains in
+    let gains = c.gather_best.new.gains in
     let more = c.add_gains.new.needed in
     let long : length needed ≡ length gains =
-    omega (arith, known.needs_long, known.gains_long, c.gather_gains.ensures.long, c.requires.long) in
+    omega (arith, known.needs_long, known.gains_long, c.gather_best.ensures.long, c.requires.long) in
     record {
       needs_long = c.add_gains.ensures.needs_long ∙ known.needs_long;
-      gains_long = c.add_gains.ensures.gains_long ∙ c.gather_gains.ensures.long ∙ known.gains_long;
+      gains_long = c.add_gains.ensures.gains_long ∙ c.gather_best.ensures.long ∙ known.gains_long;
       needed = needed-more c.args.graph.now c.args.allowed.now c.args.cert.now before (before + 1) needed gains more (omega arith)
-          c.add_gains.ensures.needs_long long known.needed c.gather_gains.ensures.gains c.add_gains.ensures.added;
-      needs = needs-more before needed gains more c.add_gains.ensures.needs_long long known.needs c.gather_gains.ensures.near
+          c.add_gains.ensures.needs_long long known.needed c.gather_best.ensures.gains c.add_gains.ensures.added;
+      needs = needs-more before needed gains more c.add_gains.ensures.needs_long long known.needs c.gather_best.ensures.near
           c.add_gains.ensures.added;
       clear = c.add_gains.ensures.clear;
     }

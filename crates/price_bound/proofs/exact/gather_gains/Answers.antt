@@ -4,7 +4,7 @@ use Rattle.std.proofs.lemmas.Int.{to_z-of_z}
 use Rattle.colour_graph.specs.declared.edge.Edge.{Edge}
 use Rattle.colour_graph.specs.Graph.{edge_at, head_colour}
 use Rattle.colour_graph.proofs.Scores.{SFits-score}
-use Rattle.price_bound.specs.inside.Exact.{IsGain, IsGreater, gain_with, number_in}
+use Rattle.price_bound.specs.inside.Exact.{IsGainAmount, IsGreater, gain_with, number_in}
 use Rattle.price_bound.proofs.Edges.{IsInto}
 use Rattle.price_bound.proofs.Gaining.{AreGainsBefore, gains-last, gains-with, gains-without}
 use Rattle.price_bound.proofs.Greatest.{greater-as}
@@ -45,7 +45,7 @@ loop-place-preserved c =
           rw (w.gains-is, more_is) (record {
             gained = subst (λ t. AreGainsBefore graph allowed c.args.colour price potentials (place + 1) (slice_set gains t w.raised.result)) (sym tail_is)
                 (gains-with graph allowed c.args.colour place price w.raised.result potentials gains is (rw tail_is at in_gains) (rw tail_is at greater) before);
-            near = set-each IsGain gains w.from-tail.result w.raised.result in_gains known.near w.raised.ensures.near;
+            near = set-each IsGainAmount gains w.from-tail.result w.raised.result in_gains known.near w.raised.ensures.near;
           })
       | else-has w ↦ rw w.gains-is (record {
         gained = gains-without graph allowed c.args.colour place price potentials gains (λ is. false≢true (sym w.if-has.false ∙ c.has.ensures ∙ is)) before;

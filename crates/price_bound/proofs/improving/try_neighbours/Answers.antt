@@ -6,7 +6,7 @@ use Rattle.price_bound.proofs.improving.try_neighbours.Goals.{then-uses-colour-g
 pub scaled-prices-requires : goal.scaled-prices-requires
 scaled-prices-requires c =
     let few = colours-few c.args.graph.now c.edge_count-edges.ensures.is_graph.colours in
-    rw c.deref.ensures.value (omega (arith, few, c.requires.vertices, c.requires.offers.kept.room.price_count))
+    rw c.deref.ensures.value (omega (arith, few, c.requires.vertices, c.requires.offers.kept.room.fits.price_count))
 
 pub bounds-uses-colour : goal.bounds-uses-colour
 bounds-uses-colour c =

@@ -1,6 +1,6 @@
 use Rattle.std.proofs.Common.{◌≡◌, ◌++◌, [], ◌∷◌, pos, ap, arith, length, ◌∙◌}
 use Rattle.std.proofs.lemmas.List.Elements.{All-push}
-use Rattle.price_bound.specs.inside.Packed.{IsRow}
+use Rattle.price_bound.specs.inside.Packed.{IsGroup}
 use Rattle.price_bound.proofs.Edges.{colours-few}
 use Rattle.price_bound.proofs.packed.groups_of.Goals as goal
 use Rattle.price_bound.proofs.packed.groups_of.Goals.{then-edge-group+in_ok-push, else-edge-group+else-colour-group}
@@ -13,7 +13,7 @@ loop-place-preserved c =
       | then-edge-group+in_ok-push w ↦
           let pushed : c.if-edge-group.groups.items ≡ c.loop-place.groups.items ++ c.loop-place.group ∷ [] = ap (λ v. v.items) w.groups-is ∙ w.in_ok-push.ensures.items in
           rw (pushed, w.group-is) (record {
-            groups = All-push (IsRow (length c.args.edges.now)) c.loop-place.groups.items c.loop-place.group c.loop-place.invariant.groups c.loop-place.invariant.last;
+            groups = All-push (IsGroup (length c.args.edges.now)) c.loop-place.groups.items c.loop-place.group c.loop-place.invariant.groups c.loop-place.invariant.last;
             last = record { tail = omega (arith, edge.tail, c.requires.vertices); colour = omega (arith, few, c.saturating_sub-colour.ensures, c.colour_of.ensures.counted, c.requires.vertices); in_order = omega arith; within = omega (arith, c.loop-place-test.true) };
             here = omega arith;
           })

@@ -1,6 +1,6 @@
 use Rattle.std.proofs.Common.{◌≡◌, ℤ, List, ap, ◌∙◌}
 use Rattle.std.proofs.lemmas.List.{with_items_is}
-use Rattle.price_bound.specs.inside.Exact.{cert_of}
+use Rattle.price_bound.specs.inside.Exact.{cert_with}
 use Rattle.price_bound.proofs.Keeping.{AreNear-amounts}
 use Rattle.price_bound.proofs.PlainPrices.{ArePlain-written}
 use Rattle.price_bound.proofs.unpriced.plain.Goals as goal
@@ -31,6 +31,6 @@ returns c =
       amounts = c.set_potentials-low.ensures.low;
       high = rw c.deref.ensures.value at c.set_potentials-low.ensures.high;
     }) in
-    let cert_is : c.unwrap.result ≡ cert_of prices potentials =
-    rw c.unwrap.ensures at c.new.ensures.numbers ∙ ap (λ (ns : List ℤ). cert_of prices ns) (with_items_is c.in_ok-potentials.potentials potentials long) in
+    let cert_is : c.unwrap.result ≡ cert_with prices potentials =
+    rw c.unwrap.ensures at c.new.ensures.numbers ∙ ap (λ (ns : List ℤ). cert_with prices ns) (with_items_is c.in_ok-potentials.potentials potentials long) in
     rw cert_is (record { plain = plain.plain; holds = plain.holds; tree = plain.tree })

@@ -55,9 +55,11 @@ returns c =
       offers = record {
         kept = kept_best graph allowed c.in_ok-prices.prices c.in_ok-vec.field-0 c.vertex_count-vertices.result c.in_ok-prices.ensures.weights zeros vertices c.in_ok-prices.ensures.amounts;
         trial = record {
-          price_count = rw prices (length-replicate c.colour_count.result (pos 0) ∙ c.colour_count.ensures);
+          fits = record {
+            price_count = rw prices (length-replicate c.colour_count.result (pos 0) ∙ c.colour_count.ensures);
+            potential_count = rw potentials (length-replicate c.vertex_count-vertices.result (pos 0) ∙ vertices);
+          };
           prices = rw prices (λ place. rw (clear-replicate c.colour_count.result place) IsAmount-zero);
-          potential_count = rw potentials (length-replicate c.vertex_count-vertices.result (pos 0) ∙ vertices);
         };
         gain_count = rw gains (length-replicate c.vertex_count-vertices.result (pos 0) ∙ vertices);
         clear = rw gains (clear-replicate c.vertex_count-vertices.result);

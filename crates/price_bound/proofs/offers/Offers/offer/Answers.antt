@@ -1,8 +1,8 @@
 use Rattle.std.proofs.Common.{◌≡◌, arith, refl, ◌∙◌, w64}
 use Rattle.std.proofs.lemmas.Int.{ints, to_z-of_z}
 use Rattle.std.proofs.lemmas.List.{with_items_is}
-use Rattle.tree_certificate.specs.PriceHolds.{price_total}
-use Rattle.price_bound.specs.inside.Exact.{AreExactAbove, cert_of}
+use Rattle.tree_certificate.specs.PriceHolds.{FitsPrices, price_total}
+use Rattle.price_bound.specs.inside.Exact.{AreExactAbove, cert_with}
 use Rattle.price_bound.specs.inside.Kept.{IsKept}
 use Rattle.price_bound.proofs.Keeping.{AreNear-amounts, IsKept-exact, below_kept}
 use Rattle.price_bound.proofs.offers.Offers.offer.Goals as goal
@@ -26,12 +26,17 @@ returns-then-trial-self c =
     let new = c.set_potentials.new.potentials in
     let written = with_items_is c.args.self.now.trial.potentials new (c.set_potentials.auto.potentials ∙ c.deref_mut.ensures.len) in
     let gains = with_items_is c.args.self.now.gains c.set_potentials.new.gains (c.set_potentials.auto.gains ∙ c.deref_mut-2.ensures.len) in
-    let exact : AreExactAbove graph allowed (cert_of prices new) 0 = rw c.deref.ensures.value at (c.set_potentials.ensures.exact c.if-set_potentials.true) in
+    let exact : AreExactAbove graph allowed (cert_with prices new) 0 = rw c.deref.ensures.value at (c.set_potentials.ensures.exact c.if-set_potentials.true) in
     let total_fits = to_z-of_z w64 c.total_of-trial.result (record { sfits = c.total_of-trial.type_inv }) in
-    let total_is : c.total_of-trial.result ≡ price_total graph (cert_of prices new) = rw (c.deref-then-set_potentials.ensures.value, c.deref-then-set_potentials-2.ensures.value, written) at c.total_of-trial.ensures in
+    let total_is : c.total_of-trial.result ≡ price_total graph (cert_with prices new) = rw (c.deref-then-set_potentials.ensures.value, c.deref-then-set_potentials-2.ensures.value, written) at c.total_of-trial.ensures in
+    let fits : FitsPrices graph (cert_with prices new) = record {
+      price_count = offers.trial.fits.price_count;
+      potential_count = c.set_potentials.auto.potentials ∙ c.deref_mut.ensures.len
+          ∙ c.args.self.now.trial.potentials.ok.0 ∙ offers.trial.fits.potential_count;
+    } in
     let kept : IsKept graph allowed c.swap.new.x =
-    rw c.swap.ensures.x_after (IsKept-exact graph allowed _ prices new refl written offers.trial.price_count
-    (c.set_potentials.auto.potentials ∙ c.deref_mut.ensures.len ∙ c.args.self.now.trial.potentials.ok.0 ∙ offers.trial.potential_count) offers.trial.prices (c.set_potentials.ensures.low c.if-set_potentials.true) exact (total_fits ∙ total_is)
+    rw c.swap.ensures.x_after (IsKept-exact graph allowed _ prices new refl written fits
+    offers.trial.prices (c.set_potentials.ensures.low c.if-set_potentials.true) exact (total_fits ∙ total_is)
     (rw total_fits (below_kept c.total_of-trial.result c.args.self.now.kept.total _ (omega (arith, ints)) offers.kept.capped))) in
     record {
       offers = record {
@@ -53,9 +58,11 @@ returns-else-trial-self c =
       offers = record {
         kept = offers.kept;
         trial = record {
-          price_count = offers.trial.price_count;
+          fits = record {
+            price_count = offers.trial.fits.price_count;
+            potential_count = rw written (omega (arith, c.set_potentials.auto.potentials, c.deref_mut.ensures.len));
+          };
           prices = offers.trial.prices;
-          potential_count = rw written (omega (arith, c.set_potentials.auto.potentials, c.deref_mut.ensures.len));
         };
         gain_count = rw gains (omega (arith, c.set_potentials.auto.gains, c.deref_mut-2.ensures.len));
         clear = rw gains c.set_potentials.ensures.clear;

@@ -9,8 +9,8 @@ use Rattle.certificate_checker.specs.inside.Gained.{AreGainedBefore}
 use Rattle.certificate_checker.proofs.Gaining.{gained-last, gained-near, gained-tails, gained-with, gained-without}
 use Rattle.certificate_checker.proofs.PartWalk.{SFits-number, SFits-score}
 use Rattle.certificate_checker.proofs.TableNumbers.{near-below}
-use Rattle.certificate_checker.proofs.needed.gather_gains.Goals as goal
-use Rattle.certificate_checker.proofs.needed.gather_gains.Goals.{then-has, else-has}
+use Rattle.certificate_checker.proofs.needed.gather_best.Goals as goal
+use Rattle.certificate_checker.proofs.needed.gather_best.Goals.{then-has, else-has}
 
 as_number : (n : ℤ) → IsNumber n → IsNumber (to_z w64 (of_z w64 n))
 as_number n near = rw (to_z-of_z w64 n (SFits-number n near)) near

@@ -1,6 +1,6 @@
 use Rattle.std.proofs.Common.{◌≡◌, length}
 use Rattle.certificate_checker.specs.inside.Gained.{AreGained, AreGainedBefore}
-use Rattle.certificate_checker.proofs.needed.gather_gains.Given as goal
+use Rattle.certificate_checker.proofs.needed.gather_best.Given as goal
 
 abbrev pub invariant-loop-place : goal.invariant-loop-place
 invariant-loop-place l = record {
