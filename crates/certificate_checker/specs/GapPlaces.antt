@@ -46,9 +46,12 @@ IsGapPlace graph bound score upper budget (Splits splits) = (splits ≡ splits_o
 IsGapPlace graph bound score upper budget (Loose greatest) = (splits_of bound ≡ budget)
     × IsGreatestTotal graph (all_leaves graph bound) greatest × (greatest ≢ upper)
 IsGapPlace graph bound score upper budget (Slack node) =
-    UpperIsReached graph bound upper budget × IsFirstNode (λ leaf. leaf.node) (IsTight graph) (all_leaves graph bound) node
+    UpperIsReached graph bound upper budget
+    × IsFirstNode (λ leaf. leaf.node) (IsTight graph) (all_leaves graph bound) node
 IsGapPlace graph bound score upper budget (Wasted node) =
-    LeavesAreTight graph bound upper budget × IsFirstNode (λ fork. fork.node) (IsUseful graph upper) (all_forks graph bound) node
+    LeavesAreTight graph bound upper budget
+    × IsFirstNode (λ fork. fork.node) (IsUseful graph upper) (all_forks graph bound) node
 IsGapPlace graph bound score upper budget (Decided node) =
-    SplitsAreUseful graph bound upper budget × IsFirstNode (λ leaf. leaf.node) (CanGoOn graph score) (all_leaves graph bound) node
+    SplitsAreUseful graph bound upper budget
+    × IsFirstNode (λ leaf. leaf.node) (CanGoOn graph score) (all_leaves graph bound) node
 IsGapPlace graph bound score upper budget other = ⊥

@@ -3,7 +3,7 @@
 ghost use Rattle.std.specs.Prelude.{◌≤◌, ◌<◌, ◌^◌, IfOk, length};
 ghost use Rattle.std.specs.List.{All};
 ghost use Rattle.colour_graph.specs.EdgeSet.{IsSetOf};
-ghost use Rattle.price_bound.specs.inside.Packed.{AreHeld, IsPacked, IsGroup, IsScaled};
+ghost use Rattle.price_bound.specs.inside.Packed.{AreHeld, IsGroup, IsPacked, IsScaled};
 
 use colour_graph::{Allowed, ColourGraph, VertexId};
 use std::alloc::{AllocError, Global};
