@@ -3,7 +3,8 @@ ghost use Rattle.std.specs.Prelude.{◌≡◌, ◌≤◌, ◌<◌, ◌*◌, ◌-
 ghost use Rattle.colour_graph.specs.Graph.{IsScore, colour_count};
 ghost use Rattle.tree_certificate.specs.Number.{AreNumbers};
 ghost use Rattle.tree_certificate.specs.TableHolds.{FitsGraph, row_at};
-ghost use Rattle.certificate_checker.specs.inside.Enough.{AreGainsBefore, AreGainsBelow, AreNoGains, AreNumbersBelow, IsGain, IsNumber, IsRaised, number_in};
+ghost use Rattle.certificate_checker.specs.inside.Enough.{AreGainsBefore, AreGainsBelow, AreNoGains, AreNumbersBelow};
+ghost use Rattle.certificate_checker.specs.inside.Enough.{IsGain, IsNumber, IsRaised, number_in};
 
 use colour_graph::{Colour, ColourGraph, VertexId};
 
