@@ -13,10 +13,10 @@ use Rattle.tree_certificate.specs.PriceHolds.{PriceHolds, needed_of, potential_o
 use Rattle.tree_certificate.specs.declared.bound.Bound.{Bound}
 use Rattle.tree_certificate.specs.declared.bound.Bound.TheVariants.{Split}
 use Rattle.tree_certificate.proofs.BoundValues.{value_of_split}
-use Rattle.certificate_checker.specs.declared.place.Place.{Place}
-use Rattle.certificate_checker.specs.declared.place.Place.TheVariants.{SplitColour, SplitEdges, PriceShape, PriceNegative, PotentialLow, LeafTotal}
-use Rattle.certificate_checker.specs.declared.place.Verdict.{Verdict}
-use Rattle.certificate_checker.specs.declared.place.Verdict.TheVariants.{Holds, Fails}
+use Rattle.tree_certificate.specs.declared.place.Place.{Place}
+use Rattle.tree_certificate.specs.declared.place.Place.TheVariants.{SplitColour, SplitEdges, PriceShape, PriceNegative, PotentialLow, LeafTotal}
+use Rattle.certificate_checker.specs.declared.verdict.Verdict.{Verdict}
+use Rattle.certificate_checker.specs.declared.verdict.Verdict.TheVariants.{Holds, Fails}
 use Rattle.certificate_checker.specs.BoundPlaces.{IsBoundPlace, IsLeafPlace, IsSplitPlace, IsVerdictFrom}
 use Rattle.certificate_checker.specs.inside.Sides.{adding}
 use Rattle.certificate_checker.proofs.SplitSides.{into-in_range, only-undone}

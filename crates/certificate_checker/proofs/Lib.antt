@@ -1,23 +1,15 @@
-mod PartWalk
+pub mod PartWalk
 mod HasColour
 mod MarkedColours
 mod UsefulColours
 mod IdleColours
 mod Raising
-mod TableNumbers
+pub mod TableNumbers
 mod EnoughIsHigh
 mod LowPlaces
-mod BoundVerdicts
-mod Verdicts
-mod CapOf
+pub mod BoundVerdicts
+pub mod Verdicts
+pub mod CapOf
 mod FoundSets
 mod Gaining
-mod SplitSides
-mod AreMarks
-mod AreFirsts
-mod IsColourful
-mod Gathering
-mod Totals
-mod GapPlaces
-mod Looking
-pub mod IsEntryVerdict
+pub mod SplitSides

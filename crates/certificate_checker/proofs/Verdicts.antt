@@ -9,10 +9,10 @@ use Rattle.tree_certificate.specs.CertHolds.{CertHolds}
 use Rattle.tree_certificate.specs.ColourSet.{place_of}
 use Rattle.tree_certificate.specs.TableHolds.{HasRow, IsHighAt, TableHolds, number_at, place_in, row_length, table_total}
 use Rattle.tree_certificate.specs.Value.{CertValue, a_bound, a_table}
-use Rattle.certificate_checker.specs.declared.place.Place.{Place}
-use Rattle.certificate_checker.specs.declared.place.Place.TheVariants.{TableColours, TableShape, TableRow, TableTotal}
-use Rattle.certificate_checker.specs.declared.place.Verdict.{Verdict}
-use Rattle.certificate_checker.specs.declared.place.Verdict.TheVariants.{Holds, Fails}
+use Rattle.tree_certificate.specs.declared.place.Place.{Place}
+use Rattle.tree_certificate.specs.declared.place.Place.TheVariants.{TableColours, TableShape, TableRow, TableTotal}
+use Rattle.certificate_checker.specs.declared.verdict.Verdict.{Verdict}
+use Rattle.certificate_checker.specs.declared.verdict.Verdict.TheVariants.{Holds, Fails}
 use Rattle.certificate_checker.specs.Places.{IsNeeded, IsTablePlace, IsVerdict}
 use Rattle.certificate_checker.proofs.BoundVerdicts.{no_bound_place}
 use Rattle.certificate_checker.proofs.LowPlaces.{SetAt, double, half, set_at}

@@ -7,11 +7,11 @@ use Rattle.tree_certificate.specs.BoundHolds.{BoundHolds, IsSplit, nodes_of}
 use Rattle.tree_certificate.specs.BoundValue.{BoundValue, PriceValue, priced, split}
 use Rattle.tree_certificate.specs.PriceHolds.{AreNotNegative, FitsPrices, PriceHolds, needed_of}
 use Rattle.tree_certificate.specs.PriceHolds.{potential_of, price_of, price_total}
-use Rattle.certificate_checker.specs.declared.place.Place.{Place}
-use Rattle.certificate_checker.specs.declared.place.Place.TheVariants.{SplitColour, SplitEdges, PriceShape}
-use Rattle.certificate_checker.specs.declared.place.Place.TheVariants.{PriceNegative, PotentialLow, LeafTotal}
-use Rattle.certificate_checker.specs.declared.place.Verdict.{Verdict}
-use Rattle.certificate_checker.specs.declared.place.Verdict.TheVariants.{Holds, Fails}
+use Rattle.tree_certificate.specs.declared.place.Place.{Place}
+use Rattle.tree_certificate.specs.declared.place.Place.TheVariants.{SplitColour, SplitEdges, PriceShape}
+use Rattle.tree_certificate.specs.declared.place.Place.TheVariants.{PriceNegative, PotentialLow, LeafTotal}
+use Rattle.certificate_checker.specs.declared.verdict.Verdict.{Verdict}
+use Rattle.certificate_checker.specs.declared.verdict.Verdict.TheVariants.{Holds, Fails}
 
 -- the first colour whose price is below 0
 pub record IsNegativePlace (graph : Graph) (cert : PriceValue) (colour : ℕ) : Type 0 where

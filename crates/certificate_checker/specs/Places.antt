@@ -8,10 +8,10 @@ use Rattle.tree_certificate.specs.TableHolds.{FitsGraph, HasRow, IsHighAt, IsHig
 use Rattle.tree_certificate.specs.TableHolds.{greatest_colours, number_at, place_in, row_length, table_total}
 use Rattle.tree_certificate.specs.Value.{CertValue, a_bound, a_table}
 use Rattle.certificate_checker.specs.BoundPlaces.{IsBoundPlace}
-use Rattle.certificate_checker.specs.declared.place.Place.{Place}
-use Rattle.certificate_checker.specs.declared.place.Place.TheVariants.{TableColours, TableShape, TableRow, TableTotal}
-use Rattle.certificate_checker.specs.declared.place.Verdict.{Verdict}
-use Rattle.certificate_checker.specs.declared.place.Verdict.TheVariants.{Holds, Fails}
+use Rattle.tree_certificate.specs.declared.place.Place.{Place}
+use Rattle.tree_certificate.specs.declared.place.Place.TheVariants.{TableColours, TableShape, TableRow, TableTotal}
+use Rattle.certificate_checker.specs.declared.verdict.Verdict.{Verdict}
+use Rattle.certificate_checker.specs.declared.verdict.Verdict.TheVariants.{Holds, Fails}
 
 -- The first vertex of a graph whose row is missing or has another length; or the number of vertices, where each has its
 -- row and there are further ones.

@@ -4,11 +4,11 @@ ghost use Rattle.colour_graph.specs.EdgeSet.{IsSetOf, all_edges};
 ghost use Rattle.tree_certificate.specs.BoundHolds.{BoundHolds, depth_of, nodes_of, splits_of};
 ghost use Rattle.tree_certificate.specs.BoundView.{bound_value};
 ghost use Rattle.certificate_checker.specs.BoundPlaces.{IsBoundVerdict, IsVerdictFrom};
-ghost use Rattle.certificate_checker.specs.declared.place.Verdict.TheVariants.{Holds};
+ghost use Rattle.certificate_checker.specs.declared.verdict.Verdict.TheVariants.{Holds};
 
-use crate::place::Verdict;
 use crate::prices::wrong_prices;
 use crate::sides::{give_back, keep_only, put_part, take_part, wrong_split};
+use crate::verdict::Verdict;
 use colour_graph::{Allowed, ColourGraph, EdgeId};
 use std::alloc::{AllocError, Global};
 use tree_certificate::Bound;

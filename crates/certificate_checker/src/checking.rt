@@ -5,11 +5,11 @@ ghost use Rattle.colour_graph.specs.EdgeSet.{all_edges};
 ghost use Rattle.tree_certificate.specs.CertHolds.{CertHolds, cert_depth, cert_splits};
 ghost use Rattle.tree_certificate.specs.Value.{cert_of};
 ghost use Rattle.certificate_checker.specs.Places.{IsVerdict};
-ghost use Rattle.certificate_checker.specs.declared.place.Verdict.TheVariants.{Holds};
+ghost use Rattle.certificate_checker.specs.declared.verdict.Verdict.TheVariants.{Holds};
 
 use crate::bound::check_bound;
-use crate::place::Verdict;
 use crate::table::check_table;
+use crate::verdict::Verdict;
 use colour_graph::ColourGraph;
 use std::alloc::{AllocError, Global};
 use tree_certificate::{Cert, what_holds_bounds_every_tree};

@@ -10,11 +10,12 @@ ghost use Rattle.certificate_checker.specs.BoundPlaces.{IsLeafPlace, IsNegativeP
 ghost use Rattle.certificate_checker.specs.inside.Enough.{IsNumber};
 ghost use Rattle.certificate_checker.specs.inside.Gained.{IsPriceSum};
 
-use crate::entry::GREATEST_VERTICES;
 use crate::needed::gather_needed;
-use crate::place::Place;
 use colour_graph::{Allowed, Colour, ColourGraph};
-use tree_certificate::{PriceCert, what_prices_hold_bounds_every_tree};
+use tree_certificate::{Place, PriceCert, what_prices_hold_bounds_every_tree};
+
+/// A graph has at most so many vertices here, and fewer colours.
+const GREATEST_VERTICES: usize = 512;
 
 /// Whether prices and potentials hold on a set of edges of a graph of at most 512 vertices, and what they say of it is
 /// at most an upper bound. Then no colourful list of edges of the set scores more than that.
@@ -116,7 +117,7 @@ fn low_potential(
 }
 
 /// What prices and potentials say of the whole graph.
-pub(crate) fn total_of(graph: &ColourGraph, cert: &PriceCert) -> i64
+pub fn total_of(graph: &ColourGraph, cert: &PriceCert) -> i64
     requires vertices { length graph.now.colours ≤ 512 }
     requires fits { FitsPrices graph.now cert.now }
     requires prices { AreNotNegative cert.now.prices }

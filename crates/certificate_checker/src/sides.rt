@@ -8,9 +8,9 @@ ghost use Rattle.tree_certificate.specs.BoundHolds.{IsSplit};
 ghost use Rattle.certificate_checker.specs.BoundPlaces.{IsSplitPlace};
 ghost use Rattle.certificate_checker.specs.inside.Sides.{AreRisingInto, adding};
 
-use crate::place::Place;
 use colour_graph::{Allowed, Colour, ColourGraph, EdgeId};
 use std::alloc::AllocError;
+use tree_certificate::Place;
 
 /// The place where the split of a node fails on a set of edges, apart from its sides.
 pub(crate) fn wrong_split(
@@ -74,7 +74,7 @@ fn is_within(allowed: &Allowed, edge: EdgeId, least: EdgeId, past: EdgeId) -> bo
 
 /// Leaves a set only those of its edges into a colour that a part names; the numbers of the others are put behind those
 /// that were taken out before.
-pub(crate) fn keep_only(
+pub fn keep_only(
     graph: &ColourGraph,
     allowed: &mut Allowed,
     colour: Colour,
@@ -94,7 +94,7 @@ pub(crate) fn keep_only(
 }
 
 /// Takes the edges that a part names out of a set.
-pub(crate) fn take_part(allowed: &mut Allowed, part: &[EdgeId])
+pub fn take_part(allowed: &mut Allowed, part: &[EdgeId])
     requires { All (λ edge. edge < length allowed.old) part.now }
     ensures { allowed.new ≡ leaving allowed.old part.now }
 {
@@ -104,7 +104,7 @@ pub(crate) fn take_part(allowed: &mut Allowed, part: &[EdgeId])
 }
 
 /// Puts the edges that a part names into a set.
-pub(crate) fn put_part(allowed: &mut Allowed, part: &[EdgeId])
+pub fn put_part(allowed: &mut Allowed, part: &[EdgeId])
     requires { All (λ edge. edge < length allowed.old) part.now }
     ensures { allowed.new ≡ adding allowed.old part.now }
 {
@@ -138,7 +138,7 @@ fn take_row(
 }
 
 /// Puts edges that were taken out back into a set, all but the first so many.
-pub(crate) fn give_back(allowed: &mut Allowed, taken: &mut Vec<EdgeId>, before: usize)
+pub fn give_back(allowed: &mut Allowed, taken: &mut Vec<EdgeId>, before: usize)
     requires before { before ≤ length taken.old.items }
     requires in_range { All (λ edge. edge < length allowed.old) (drop before taken.old.items) }
     ensures given { allowed.new ≡ adding allowed.old (drop before taken.old.items) }

@@ -9,13 +9,11 @@ ghost use Rattle.certificate_checker.specs.inside.Low.{AreHigh, AreHighBefore, I
 
 use crate::gains::row_of;
 use crate::low::Low;
-use crate::place::{Place, Verdict};
+use crate::verdict::Verdict;
 use crate::vertex::{first_low_of, sets_of};
 use colour_graph::{ColourGraph, VertexId};
 use std::alloc::{AllocError, Global};
-
-/// A table is of a graph with at most so many colours.
-pub(crate) const GREATEST_COLOURS: u32 = 12;
+use tree_certificate::{GREATEST_COLOURS, Place};
 
 /// Whether a table of these rows holds for an upper bound, or the first place where it fails.
 pub(crate) fn check_table(

@@ -3,14 +3,14 @@
 
 ghost use Rattle.std.specs.Prelude.{◌≡◌, ◌↔◌, false, Some, None};
 ghost use Rattle.frag_io.specs.declared.desk.Slot.{Slot};
-ghost use Rattle.fragment_run.specs.Orders.{DocumentNames, ListNames, Order, begins_of, check, list, order_of, profile_named, solve};
-ghost use Rattle.fragment_run.specs.Words.{texts_of};
-ghost use Rattle.fragment_run.specs.Causes.{Causes};
-ghost use Rattle.fragment_run.specs.Steps.{Steps};
-ghost use Rattle.fragment_run.specs.ProfilePromise.{ProfilePromise};
-ghost use Rattle.fragment_run.specs.check.CheckPromise.{CheckPromise};
-ghost use Rattle.fragment_run.specs.list.ListPromise.{ListPromise};
-ghost use Rattle.fragment_run.specs.solve.SolvePromise.{SolvePromise};
+ghost use Rattle.order_words.specs.Orders.{DocumentNames, ListNames, Order, begins_of, check, list, order_of, profile_named, solve};
+ghost use Rattle.order_words.specs.Words.{texts_of};
+ghost use Rattle.run_plan.specs.Causes.{Causes};
+ghost use Rattle.run_plan.specs.Steps.{Steps};
+ghost use Rattle.run_plan.specs.ProfilePromise.{ProfilePromise};
+ghost use Rattle.check_command.specs.CheckPromise.{CheckPromise};
+ghost use Rattle.list_command.specs.ListPromise.{ListPromise};
+ghost use Rattle.solve_command.specs.SolvePromise.{SolvePromise};
 
 mod candidates;
 mod check;

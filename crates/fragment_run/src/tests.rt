@@ -5,14 +5,15 @@ use crate::{
     RejectPart, RejectPlace, Status, a_rejected_document_is_not_right, a_spectrum_has_one_outline,
     fault_text, run, what_is_accepted_is_nothing_else,
 };
-use certificate_checker::{EntryPlace, Place};
+use tree_certificate::Place;
+use tree_entry::EntryPlace;
 use frag_io::{CallKind, Failing, MemoryDesk, Slot};
 use mgf_reader::{MgfFault, MgfKind};
 use profile::{Name, ProfileFault};
 use std::alloc::{AllocError, Global};
 use std::process::Abort;
 use std::test::Fail;
-use tree_certificate::CertFault;
+use tree_document::CertFault;
 
 const WATER: &[u8] = b"BEGIN IONS\nPEPMASS=19.0178410\nEND IONS\n";
 

@@ -1,3 +1,2 @@
 mod Fields
 mod Numbered
-pub mod Ranked

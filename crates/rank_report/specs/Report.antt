@@ -6,22 +6,22 @@ use Rattle.fixed_mass.specs.FixedText.{fixed_text, mass_places}
 use Rattle.element_table.specs.FormulaList.{FormulaListValue}
 use Rattle.element_table.specs.FormulaText.{formula_text}
 use Rattle.mgf_reader.specs.Fault.{kind_of_number}
-use Rattle.tree_certificate.specs.Line.{word_of}
-use Rattle.tree_certificate.specs.Title.{escaped}
-use Rattle.tree_certificate.specs.declared.document.Body.{Body}
-use Rattle.tree_certificate.specs.declared.document.Body.TheVariants.{Skipped, Solved}
-use Rattle.tree_certificate.specs.declared.document.Document.{Document}
-use Rattle.tree_certificate.specs.declared.document.Ending.{Ending}
-use Rattle.tree_certificate.specs.declared.document.Ending.TheVariants.{Clean, Refused}
-use Rattle.tree_certificate.specs.declared.document.Section.{Section}
-use Rattle.tree_certificate.specs.declared.document.Skip.{Skip}
-use Rattle.tree_certificate.specs.declared.document.Skip.TheVariants.{NoPrecursor, Charge, Range, TooMany}
-use Rattle.tree_certificate.specs.declared.entry.Entry.{Entry}
-use Rattle.tree_certificate.specs.declared.entry.Mark.{Mark}
-use Rattle.tree_certificate.specs.declared.entry.Mark.TheVariants.{Optimal, Gap}
-use Rattle.tree_certificate.specs.declared.entry.Outcome.{Outcome}
-use Rattle.tree_certificate.specs.declared.entry.Outcome.TheVariants.{Tree, TooLarge}
-use Rattle.tree_certificate.specs.declared.entry.TreeRow.{TreeRow}
+use Rattle.tree_document.specs.Line.{word_of}
+use Rattle.tree_document.specs.Title.{escaped}
+use Rattle.tree_document.specs.declared.document.Body.{Body}
+use Rattle.tree_document.specs.declared.document.Body.TheVariants.{Skipped, Solved}
+use Rattle.tree_document.specs.declared.document.Document.{Document}
+use Rattle.tree_document.specs.declared.document.Ending.{Ending}
+use Rattle.tree_document.specs.declared.document.Ending.TheVariants.{Clean, Refused}
+use Rattle.tree_document.specs.declared.document.Section.{Section}
+use Rattle.tree_document.specs.declared.document.Skip.{Skip}
+use Rattle.tree_document.specs.declared.document.Skip.TheVariants.{NoPrecursor, Charge, Range, TooMany}
+use Rattle.tree_document.specs.declared.entry.Entry.{Entry}
+use Rattle.tree_document.specs.declared.entry.Mark.{Mark}
+use Rattle.tree_document.specs.declared.entry.Mark.TheVariants.{Optimal, Gap}
+use Rattle.tree_document.specs.declared.entry.Outcome.{Outcome}
+use Rattle.tree_document.specs.declared.entry.Outcome.TheVariants.{Tree, TooLarge}
+use Rattle.tree_document.specs.declared.entry.TreeRow.{TreeRow}
 
 -- why a spectrum was skipped
 abbrev pub skip_words : Skip → List ℕ

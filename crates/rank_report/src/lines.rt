@@ -6,16 +6,16 @@ ghost use Rattle.fixed_mass.specs.FixedText.{fixed_text, mass_places};
 ghost use Rattle.element_table.specs.FormulaText.{formula_text};
 ghost use Rattle.mgf_reader.specs.Fault.{kind_of_number};
 ghost use Rattle.rank_report.specs.Report as spec;
-ghost use Rattle.tree_certificate.specs.Line.{word_of};
-ghost use Rattle.tree_certificate.specs.declared.document.Body.TheVariants.{Skipped};
-ghost use Rattle.tree_certificate.specs.declared.entry.Outcome.TheVariants as outcome;
+ghost use Rattle.tree_document.specs.Line.{word_of};
+ghost use Rattle.tree_document.specs.declared.document.Body.TheVariants.{Skipped};
+ghost use Rattle.tree_document.specs.declared.entry.Outcome.TheVariants as outcome;
 
 use element_table::{Formula, FormulaList, print_formula};
 use fixed_mass::print_units;
 use itoa::Buffer;
 use mgf_reader::MgfKind;
 use std::alloc::AllocError;
-use tree_certificate::{Entry, Mark, Outcome, Skip, Tree, TreeRow};
+use tree_document::{Entry, Mark, Outcome, Skip, Tree, TreeRow};
 
 /// Appends some words and a number.
 pub fn push_number(text: &mut Vec<u8>, words: &[u8], number: u64) -> Result<(), AllocError>

@@ -2,11 +2,11 @@
 ghost use Rattle.std.specs.Prelude.{◌≡◌, ◌++◌, IfOk, OnOk};
 ghost use Rattle.std.specs.List.{flat_map};
 ghost use Rattle.rank_report.specs.Report.{body_text, ending_text_of, report_text_of, section_text_of};
-ghost use Rattle.tree_certificate.specs.declared.document.Ending.TheVariants.{Refused};
+ghost use Rattle.tree_document.specs.declared.document.Ending.TheVariants.{Refused};
 
 use crate::lines::{push_entries, push_kind, push_number, push_peaks, push_skip};
 use std::alloc::{AllocError, Global};
-use tree_certificate::{Body, Document, Ending, MgfEnd, Section, push_escaped};
+use tree_document::{Body, Document, Ending, MgfEnd, Section, push_escaped};
 
 /// The report of a section: its spectrum, its lists, and its entries by rank with the rows of their trees.
 pub fn section_text(alloc: Global, section: &Section) -> Result<Vec<u8>, AllocError>

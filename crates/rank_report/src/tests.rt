@@ -6,9 +6,10 @@ use element_table::{Formula, read_formula};
 use mgf_reader::Title;
 use std::alloc::{AllocError, Global};
 use std::test::Fail;
-use tree_certificate::{
-    Body, Cert, Ending, Entries, Entry, FormulaLists, Mark, MgfEnd, Outcome, Section, Solved,
-    TableCert, Tree, TreeRows, read_document,
+use tree_certificate::{Cert, TableCert};
+use tree_document::{
+    Body, Ending, Entries, Entry, FormulaLists, Mark, MgfEnd, Outcome, Section, Solved, Tree,
+    TreeRows, read_document,
 };
 
 /// A document of one section with one tree.

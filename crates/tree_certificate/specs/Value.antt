@@ -1,9 +1,7 @@
--- What a tree and its certificate are, as plain values.
+-- What a certificate is, as a plain value.
 use Rattle.std.specs.Prelude.{ℤ, List}
-use Rattle.tree_certificate.specs.declared.entry.Mark.{Mark}
-use Rattle.tree_certificate.specs.declared.entry.TreeRow.{TreeRow}
-use Rattle.tree_certificate.specs.declared.entry.Cert.{Cert}
-use Rattle.tree_certificate.specs.declared.entry.Cert.TheVariants.{Bounds, Table}
+use Rattle.tree_certificate.specs.declared.cert.Cert.{Cert}
+use Rattle.tree_certificate.specs.declared.cert.Cert.TheVariants.{Bounds, Table}
 use Rattle.tree_certificate.specs.BoundValue.{BoundValue}
 use Rattle.tree_certificate.specs.BoundView.{bound_value}
 
@@ -15,10 +13,3 @@ pub data CertValue : Type 0 where
 abbrev pub cert_of : Cert → CertValue
 cert_of (Table rows) = a_table rows
 cert_of (Bounds bound) = a_bound (bound_value bound)
-
-pub record TreeValue : Type 0 where
-  pub score : ℤ
-  pub upper : ℤ
-  pub mark : Mark
-  pub rows : List TreeRow
-  pub cert : CertValue

@@ -38,7 +38,7 @@ impl PriceCert {
     }
 
     /// The certificate of numbers that may stand in one.
-    pub(crate) fn of_numbers(prices: Vec<i64>, potentials: Vec<i64>) -> PriceCert
+    pub fn of_numbers(prices: Vec<i64>, potentials: Vec<i64>) -> PriceCert
         requires prices { AreNear prices.items }
         requires potentials { AreNear potentials.items }
         ensures { result ≡ record { prices = prices.items; potentials = potentials.items } }

@@ -8,6 +8,9 @@ use std::marker::Model;
 /// The numbers of a certificate are at most so far from 0.
 pub const GREATEST_NUMBER: u64 = 1_000_000_000_000_000;
 
+/// A table is of a graph with at most so many colours.
+pub const GREATEST_COLOURS: u32 = 12;
+
 /// A table of whole numbers within 10^15 of 0: a row for each vertex of a graph, and in it a number for each set of the
 /// colours that are greater than the vertex's.
 #[derive(Debug, Drop)]
@@ -40,7 +43,7 @@ impl TableCert {
     }
 
     /// The table of rows that may stand in a certificate.
-    pub(crate) fn of_rows(rows: Vec<Vec<i64>>) -> TableCert
+    pub fn of_rows(rows: Vec<Vec<i64>>) -> TableCert
         requires { AreNumbers (map (λ row. row.items) rows.items) }
         ensures { result ≡ map (λ row. row.items) rows.items }
     {

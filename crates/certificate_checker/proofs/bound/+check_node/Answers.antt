@@ -5,7 +5,7 @@ use Rattle.tree_certificate.specs.BoundHolds.{BoundHolds, IsSplit, depth_of, nod
 use Rattle.tree_certificate.specs.BoundView.{bound_value}
 use Rattle.tree_certificate.proofs.BoundValues.{depth_of_split, splits_of_split}
 use Rattle.certificate_checker.specs.BoundPlaces.{IsBoundPlace, IsVerdictFrom}
-use Rattle.certificate_checker.specs.declared.place.Verdict.TheVariants.{Fails, Holds}
+use Rattle.certificate_checker.specs.declared.verdict.Verdict.TheVariants.{Fails, Holds}
 use Rattle.certificate_checker.specs.inside.Sides.{adding}
 use Rattle.certificate_checker.proofs.BoundVerdicts.{behind-in_range, first-undone, said-at, value_split, verdict-first, verdict-second}
 use Rattle.certificate_checker.proofs.SplitSides.{leaving-undone, length-leaving, length-only, split-in_range}

@@ -6,7 +6,7 @@ use Rattle.tree_certificate.specs.BoundHolds.{BoundHolds}
 use Rattle.tree_certificate.specs.BoundView.{bound_value}
 use Rattle.tree_certificate.specs.Value.{a_bound, cert_of}
 use Rattle.certificate_checker.specs.Places.{IsVerdict}
-use Rattle.certificate_checker.specs.declared.place.Verdict.TheVariants.{Holds}
+use Rattle.certificate_checker.specs.declared.verdict.Verdict.TheVariants.{Holds}
 use Rattle.certificate_checker.proofs.Verdicts.{exactly_from}
 use Rattle.certificate_checker.proofs.checking.check_cert.Goals as goal
 

@@ -3,7 +3,7 @@ use Rattle.std.proofs.lemmas.Bool.{false≢true}
 use Rattle.std.proofs.lemmas.Int.{to_z-of_z}
 use Rattle.std.specs.Option.{is_some}
 use Rattle.tree_certificate.specs.PriceHolds.{PriceHolds, price_total}
-use Rattle.certificate_checker.specs.declared.place.Place.{Place}
+use Rattle.tree_certificate.specs.declared.place.Place.{Place}
 use Rattle.certificate_checker.specs.BoundPlaces.{IsLeafPlace}
 use Rattle.certificate_checker.proofs.prices.check_prices.Goals as goal
 

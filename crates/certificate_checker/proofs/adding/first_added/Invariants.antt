@@ -1,6 +1,0 @@
-use Rattle.std.proofs.Common.{◌<◌, ℕ}
-use Rattle.certificate_checker.specs.EntryPlaces.{CanBeAdded}
-use Rattle.certificate_checker.proofs.adding.first_added.Given as goal
-
-abbrev pub invariant-loop-place : goal.invariant-loop-place
-invariant-loop-place l = (earlier : ℕ) → earlier < l.place → CanBeAdded l.graph l.edges earlier → ⊥

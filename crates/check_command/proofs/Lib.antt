@@ -1,0 +1,11 @@
+pub mod CheckPromise
+pub mod IsSectionsPlace
+pub mod SameEnding
+pub mod IsReading
+pub mod EachCert
+pub mod IsDocumentPlace
+pub mod OneOutcome
+pub mod RankCmp
+pub mod AreTreesAnswer
+pub mod CandidatesFit
+pub mod IsSectionAnswer

@@ -1,0 +1,3 @@
+pub mod CheckPlaces
+pub mod CheckPromise
+pub mod inside

@@ -1,0 +1,95 @@
+//! Where the graphs and trees of entries differ first from the right ones.
+ghost use Rattle.std.specs.Prelude.{◌≡◌, ◌≤◌, IfOk, length};
+ghost use Rattle.std.specs.List.{All, AllByRecursion};
+ghost use Rattle.loss_graph.specs.Lists.{AreLists};
+ghost use Rattle.tree_document.specs.Document.{IsSmallCert, OfOutcome};
+ghost use Rattle.right_document.specs.Candidates.{ion_of};
+ghost use Rattle.check_command.specs.inside.CheckAnswers.{AreTreesAnswer, IsFinding};
+ghost use Rattle.right_document.specs.SettingsOf.{solve_settings_value_of};
+
+use run_plan::RejectPart;
+use right_document::SolveSettings;
+use entry_checker::{EntryVerdict, check_entry};
+use tree_entry::EntryPlace;
+use element_table::FormulaList;
+use loss_graph::{GraphFault, build};
+use std::alloc::{AllocError, Global};
+use tree_document::{Entry, Outcome};
+
+/// What is found of an entry.
+#[derive(Clone, Copy)]
+enum Finding {
+    /// Nothing is wrong with it.
+    Right,
+    /// It is wrongly a tree or too large, or has a wrong number of vertices.
+    Size,
+    /// Its tree is wrong, here first.
+    Tree(EntryPlace),
+}
+
+/// The first entry whose graph has another size than it says, or else the first whose tree is wrong. The graph of each
+/// candidate is built once.
+pub fn trees_place(
+    alloc: Global,
+    lists: &[FormulaList],
+    entries: &[Entry],
+    settings: &SolveSettings,
+) -> Result<Option<RejectPart>, AllocError>
+    requires few { length entries.now ≤ 20000 }
+    requires lists { All (λ entry. AreLists settings.now.listing.choice
+        (ion_of (solve_settings_value_of settings.now) entry.candidate) lists.now) entries.now }
+    requires small { AllByRecursion (λ entry. OfOutcome IsSmallCert entry.outcome) entries.now }
+    ensures { IfOk result (AreTreesAnswer (solve_settings_value_of settings.now) lists.now entries.now) }
+{
+    let mut first = None;
+    for place in 0..entries.len() {
+        match finding_of(alloc, lists, &entries[place], settings)? {
+            Finding::Right => {}
+            Finding::Size => return Ok(Some(RejectPart::Outcome(place as u32 + 1))),
+            Finding::Tree(wrong) => {
+                let part = RejectPart::Tree(place as u32 + 1, wrong);
+                first = first.or(Some(part));
+            }
+        }
+    }
+    Ok(first)
+}
+
+/// What is found of an entry, over the graph of its candidate.
+fn finding_of(
+    alloc: Global,
+    lists: &[FormulaList],
+    entry: &Entry,
+    settings: &SolveSettings,
+) -> Result<Finding, AllocError>
+    requires lists { AreLists settings.now.listing.choice
+        (ion_of (solve_settings_value_of settings.now) entry.now.candidate) lists.now }
+    requires small { OfOutcome IsSmallCert entry.now.outcome }
+    ensures { IfOk result (IsFinding (solve_settings_value_of settings.now) lists.now entry.now) }
+{
+    match (
+        build(
+            alloc,
+            lists,
+            &entry.candidate,
+            &settings.listing.choice,
+            settings.scores,
+        ),
+        &entry.outcome,
+    ) {
+        (Ok(built), Outcome::Tree(tree)) => match check_entry(
+            alloc,
+            &built,
+            tree,
+            settings.budget,
+        )? {
+            EntryVerdict::Right => Ok(Finding::Right),
+            EntryVerdict::Wrong(place) => Ok(Finding::Tree(place)),
+        },
+        (Err(GraphFault::TooLarge(vertices)), Outcome::TooLarge(told)) if vertices == *told => {
+            Ok(Finding::Right)
+        }
+        (Err(GraphFault::OutOfMemory), _) => Err(AllocError),
+        _ => Ok(Finding::Size),
+    }
+}

@@ -1,0 +1,8 @@
+mod IsColourful
+mod AreMarks
+mod AreFirsts
+mod Gathering
+mod Totals
+mod GapPlaces
+mod Looking
+pub mod IsEntryVerdict

@@ -1,0 +1,3 @@
+pub mod GapPlaces
+pub mod EntryPlaces
+pub mod inside

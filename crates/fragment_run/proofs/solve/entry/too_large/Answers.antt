@@ -1,6 +1,0 @@
-use Rattle.std.proofs.Common.{arith}
-use Rattle.fragment_run.proofs.GoodTrees.{too_large_is_good}
-use Rattle.fragment_run.proofs.solve.entry.too_large.Goals as goal
-
-pub returns-clause-good : goal.returns-clause-good
-returns-clause-good c = too_large_is_good c.args.vertices (omega arith)

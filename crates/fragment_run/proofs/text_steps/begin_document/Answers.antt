@@ -1,5 +1,0 @@
-use Rattle.std.proofs.Common.{append-nil}
-use Rattle.fragment_run.proofs.text_steps.begin_document.Goals as goal
-
-pub returns-in-None-clause-runs : goal.returns-in-None-clause-runs
-returns-in-None-clause-runs g c = λ done before runs. rw (c.in-None.is, append-nil done) runs

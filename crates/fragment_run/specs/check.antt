@@ -1,2 +1,0 @@
-pub mod CheckPlaces
-pub mod CheckPromise

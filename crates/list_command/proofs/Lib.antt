@@ -1,0 +1,2 @@
+pub mod IsReport
+pub mod ListPromise

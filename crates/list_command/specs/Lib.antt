@@ -1,0 +1,3 @@
+pub mod ReportForm
+pub mod Sections
+pub mod ListPromise

@@ -1,0 +1,2 @@
+pub mod OptionsOf
+pub mod OrderOf

@@ -1,0 +1,11 @@
+pub mod OneOutline
+pub mod LiesBelow
+pub mod AllPairs
+pub mod AreOwnLists
+pub mod CandidatesOf
+pub mod SolvedIsRight
+pub mod OneEach
+pub mod IsPrefix
+pub mod GoodLines
+pub mod GoodEntries
+pub mod GoodSections

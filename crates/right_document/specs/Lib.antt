@@ -1,0 +1,12 @@
+pub mod RunSettings
+pub mod Outline
+pub mod Outlined
+pub mod OneEach
+pub mod Ending
+pub mod SolveSettings
+pub mod Candidates
+pub mod RightSection
+pub mod RightDocument
+pub mod SettingsOf
+pub mod Outlines
+pub mod GoodLines

@@ -1,0 +1,17 @@
+//! What is right for a text: the settings of a run, the outline of a spectrum, its candidates, and which sections and
+//! documents are right.
+#![tactic(auto)]
+
+mod candidates;
+mod ending;
+mod laws;
+mod outline;
+mod settings;
+
+pub use candidates::{candidates, ion_error, is_formula};
+pub use ending::{ending_is_good, ending_of};
+pub use laws::a_spectrum_has_one_outline;
+pub use outline::{Outline, read_outline};
+pub use settings::{
+    RunSettings, SolveSettings, candidate_rules_of, choice_of, fragment_rules_of, solve_settings,
+};

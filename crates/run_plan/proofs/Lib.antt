@@ -1,0 +1,5 @@
+pub mod Running
+pub mod ProfilePromise
+pub mod ReadToEnd
+pub mod TextSteps
+pub mod TextPromise

@@ -1,0 +1,13 @@
+pub mod Status
+pub mod Class
+pub mod Begins
+pub mod Limits
+pub mod Causes
+pub mod Steps
+pub mod ProfilePromise
+pub mod Leaves
+pub mod TextPromise
+pub mod Running
+pub mod ProfileTaken
+pub mod TextSteps
+pub mod inside

@@ -1,0 +1,4 @@
+pub mod MadeSections
+pub mod SolvePromise
+pub mod EdgeCount
+pub mod GoodTrees

@@ -1,0 +1,3 @@
+pub mod RightPart
+pub mod SolvePromise
+pub mod inside

@@ -1,0 +1,151 @@
+//! The command `solve`: reads a text of spectra, writes a document with a tree and a certificate for each candidate of
+//! each spectrum, and reports it.
+ghost use Rattle.std.specs.Prelude.{◌≡◌, ◌≢◌, ◌≤◌, ◌++◌, List, Some, true, false, IfSome, IfErr, OnOk, OnErr};
+ghost use Rattle.frag_io.specs.declared.desk.Slot.{Slot};
+ghost use Rattle.frag_io.specs.declared.desk.Slot.TheVariants.{Report, CertOut};
+ghost use Rattle.frag_io.specs.DeskState.{DeskState};
+ghost use Rattle.frag_io.specs.Desk.{appended};
+ghost use Rattle.run_plan.specs.Begins.{Begin};
+ghost use Rattle.run_plan.specs.Causes.{IsUnwritten};
+ghost use Rattle.run_plan.specs.Class.{class_of, ended, IsOfProfile};
+ghost use Rattle.run_plan.specs.Limits.{AreReadWhole};
+ghost use Rattle.order_words.specs.Orders.{begins_of, solve, text_begins, written_begin};
+ghost use Rattle.run_plan.specs.ProfilePromise.{OnlyProfile, ProfilePromise};
+ghost use Rattle.right_document.specs.SolveSettings.{solve_settings_of};
+ghost use Rattle.run_plan.specs.TextPromise.{OwesText};
+ghost use Rattle.order_words.specs.NamesOf.{document_names_of};
+ghost use Rattle.run_plan.specs.Running.{Ends, IsUnfinished, Runs, status_of};
+ghost use Rattle.right_document.specs.SettingsOf.{solve_settings_value_of};
+ghost use Rattle.run_plan.specs.TextSteps.{ArePartlyWritten, IsWriteStop};
+ghost use Rattle.solve_command.specs.SolvePromise.{SolvePromise, solve_meaning};
+
+use order_words::DocumentNames;
+use run_plan::{DocumentSlot, Status, finish_slot, read_spectra, take_profile, write_slot};
+use right_document::{SolveSettings, candidate_rules_of, fragment_rules_of, solve_settings};
+use crate::document::{Solution, solve_text};
+use element_table::Formula;
+use frag_io::{Desk, Slot};
+use profile::Profile;
+use std::alloc::Global;
+use tree_document::parts_make_the_spelling;
+use valence_filter::{Sieve, all_hold};
+
+/// Solves the text that a name gives into the document of another name, under the profile that is named, for ions of
+/// the adduct.
+pub fn solve<D: Desk>(alloc: Global, names: &DocumentNames, desk: &mut D) -> Status
+    requires { (slot : Slot) → (D.state desk.old).begun slot ≡ false }
+    ensures ends { Ends (begins_of (solve (document_names_of names.now))) (D.state desk.old) (D.state desk.new) result }
+    ensures profile { ProfilePromise (document_names_of names.now).profile (D.state desk.old) (D.state desk.new)
+        result }
+    ensures promise { SolvePromise (document_names_of names.now) (D.state desk.old) (D.state desk.new) result }
+    ensures an_order { result ≢ Status.Words }
+{
+    let profile = match take_profile(alloc, names.profile, desk) {
+        Ok(profile) => profile,
+        Err(status) => return status,
+    };
+    match solve_under(alloc, names, &profile, desk) {
+        Ok(()) => Status::Done,
+        Err(status) => status,
+    }
+}
+
+/// Solves under a profile.
+fn solve_under<D: Desk>(
+    alloc: Global,
+    names: &DocumentNames,
+    profile: &Profile,
+    desk: &mut D,
+) -> Result<(), Status>
+    requires only { OnlyProfile (D.state desk.old) }
+    requires unfinished { IsUnfinished (D.state desk.old) }
+    requires unwritten { IsUnwritten (D.state desk.old) }
+    ensures ends { (done : List Begin) (before : DeskState) → Runs done before (D.state desk.old)
+        → AreReadWhole done before (D.state desk.old)
+        → Ends (done ++ text_begins names.now.spectra.now (Some (written_begin names.now.document.now))) before
+        (D.state desk.new) (status_of result) }
+    ensures text { IfSome ((D.state desk.old).gives names.now.spectra.now) (λ text.
+        OwesText (solve_meaning (solve_settings_of profile.now names.now.adduct) text) text (D.state desk.new)
+        (status_of result)) }
+    ensures own { IsOfProfile (class_of (status_of result)) → ⊥ }
+    ensures an_order { status_of result ≢ Status.Words }
+{
+    let rules = fragment_rules_of(alloc, profile, &names.adduct)?;
+    let kept = Vec::from_slice(alloc, &rules)?;
+    let candidate_rules = candidate_rules_of(alloc, profile)?;
+    let Ok(test) = Box::new(alloc, move |formula: &Formula| all_hold(&kept, formula)) else {
+        return Err(Status::Memory);
+    };
+    let settings = solve_settings(
+        profile,
+        names.adduct,
+        Sieve::new(rules, test),
+        candidate_rules,
+    );
+    solve_steps(alloc, names.spectra, names.document, &settings, desk)
+}
+
+/// Begins all three slots, reads the text, makes the document and the report whole, and writes and finishes both.
+fn solve_steps<D: Desk>(
+    alloc: Global,
+    name: &str,
+    document: &str,
+    settings: &SolveSettings,
+    desk: &mut D,
+) -> Result<(), Status>
+    requires peaks { settings.now.listing.choice.peaks ≤ 12 }
+    requires only { OnlyProfile (D.state desk.old) }
+    requires unfinished { IsUnfinished (D.state desk.old) }
+    requires unwritten { IsUnwritten (D.state desk.old) }
+    ensures ends { (done : List Begin) (before : DeskState) → Runs done before (D.state desk.old)
+        → AreReadWhole done before (D.state desk.old)
+        → Ends (done ++ text_begins name.now (Some (written_begin document.now))) before (D.state desk.new)
+        (status_of result) }
+    ensures text { IfSome ((D.state desk.old).gives name.now) (λ text.
+        OwesText (solve_meaning (solve_settings_value_of settings.now) text) text (D.state desk.new)
+        (status_of result)) }
+    ensures own { IsOfProfile (class_of (status_of result)) → ⊥ }
+    ensures an_order { status_of result ≢ Status.Words }
+{
+    parts_make_the_spelling();
+    let slot = Slot::CertOut;
+    let named = Some(DocumentSlot {
+        slot,
+        name: document,
+    });
+    let text = read_spectra(alloc, name, named, desk)?;
+    let solution = solve_text(alloc, &text, settings)?;
+    write_outputs(alloc, desk, &solution.document, &solution.report)?;
+    match solution.fault {
+        None => Ok(()),
+        Some(fault) => Err(Status::MgfRefused(fault)),
+    }
+}
+
+/// Writes the document and the report, and finishes them in this order.
+fn write_outputs<D: Desk>(
+    alloc: Global,
+    desk: &mut D,
+    document: &[u8],
+    report: &[u8],
+) -> Result<(), Status>
+    requires document { (D.state desk.old).begun CertOut ≡ true }
+    requires report { (D.state desk.old).begun Report ≡ true }
+    requires unfinished { IsUnfinished (D.state desk.old) }
+    ensures document { OnOk result
+        ((D.state desk.new).written CertOut ≡ appended ((D.state desk.old).written CertOut) document.now) }
+    ensures report { OnOk result
+        ((D.state desk.new).written Report ≡ appended ((D.state desk.old).written Report) report.now) }
+    ensures part { OnErr result (ArePartlyWritten (D.state desk.old) (D.state desk.new) document.now report.now) }
+    ensures stop { IfErr result (λ status. IsWriteStop (class_of status)) }
+    ensures ended { (order : List Begin) (before : DeskState) → Runs order before (D.state desk.old)
+        → AreReadWhole order before (D.state desk.old)
+        → OnOk result ((status : Status) → class_of status ≡ ended → Ends order before (D.state desk.new) status) }
+    ensures ends { (order : List Begin) (before : DeskState) → Runs order before (D.state desk.old)
+        → IfErr result (Ends order before (D.state desk.new)) }
+{
+    write_slot(alloc, desk, Slot::CertOut, document)?;
+    write_slot(alloc, desk, Slot::Report, report)?;
+    finish_slot(desk, Slot::CertOut)?;
+    finish_slot(desk, Slot::Report)
+}

@@ -1,5 +1,0 @@
-use Rattle.std.proofs.Common.{◌-◌}
-use Rattle.tree_certificate.proofs.reader.+read_bound.Given as goal
-
-abbrev pub decreases-read_bound : goal.decreases-read_bound
-decreases-read_bound l = 1024 - l.under

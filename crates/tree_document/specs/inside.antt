@@ -1,0 +1,6 @@
+pub mod Cut
+pub mod Field
+pub mod Need
+pub mod Verdict
+pub mod Taking
+pub mod Head

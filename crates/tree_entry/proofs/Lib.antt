@@ -1,0 +1,3 @@
+mod IsReached
+mod AreRows
+pub mod Ranked
