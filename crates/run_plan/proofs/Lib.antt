@@ -1,3 +1,4 @@
+pub mod Plan
 pub mod Running
 pub mod ProfilePromise
 pub mod ReadToEnd

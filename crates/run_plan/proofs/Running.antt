@@ -1,11 +1,11 @@
--- `Runs` and `Ends`: what the steps of a run keep, and how each of them ends it.
+-- `HasDone` and `Ends`: what the steps of a run keep, and how each of them ends it.
 use Rattle.std.proofs.Common.{◌≡◌, ◌≢◌, ◌≤◌, ◌<◌, ◌++◌, ◌⊎◌, inl, inr, ℕ, Bool, true, false, List, [], ◌∷◌, length, Option, Some, None, Result, Err, IfSome, sym, ◌∙◌, ap, subst, refl, arith, append-nil, length-append}
 use Rattle.std.proofs.Math.Nat.{lt_of_not-le}
-use Rattle.std.specs.Prelude.{Vec, is_some, option_and_then, if◌then◌else◌}
+use Rattle.std.specs.Prelude.{Vec, is_some, option_and_then, ◌↔◌}
 use Rattle.std.specs.declared.alloc.Global.{Global}
 use Rattle.std.proofs.lemmas.Option.{IfSome_then, MatchOption-at_some}
 use Rattle.frag_io.specs.declared.desk.Slot.{Slot}
-use Rattle.frag_io.specs.declared.desk.Slot.TheVariants.{Spectra, Profile, CertIn, Report, CertOut}
+use Rattle.frag_io.specs.declared.desk.Slot.TheVariants.{Profile}
 use Rattle.frag_io.specs.declared.whole.ReadWhole.{ReadWhole}
 use Rattle.frag_io.specs.declared.whole.ReadWhole.TheVariants as Read
 use Rattle.frag_io.specs.declared.desk.DeskFault.{DeskFault}
@@ -17,409 +17,474 @@ use Rattle.frag_io.specs.Whole.{ReadsWhole}
 use Rattle.profile.specs.declared.fault.ProfileFault.{ProfileFault}
 use Rattle.profile.specs.declared.fault.ProfileFault.TheVariants as P
 use Rattle.run_plan.specs.ProfileTaken.{refusal_of}
-use Rattle.run_plan.specs.Begins.{profile_begin, Begin, HasBegun, IsNext, is_same_slot, name_in, text_in}
-use Rattle.run_plan.specs.Causes.{CauseOf, Causes, IsUnwritten}
-use Rattle.run_plan.specs.Class.{Class, class_of, no_order, ended, refused, memory, open_fault, read_fault, write_fault, too_long, IsAnswer, IsPastBegins, WritesNothing}
-use Rattle.run_plan.specs.Limits.{AreReadWhole, AreWithinLimits, FitLimits, FitsLimit, greatest_text_of}
-use Rattle.run_plan.specs.Running.{Ends, IsWithinLimit, Runs, write_status_of}
+use Rattle.run_plan.specs.Plan.{HasBegun, Step, begin, read, write, finish, is_finish_of, is_finished_in, is_next, is_read_in, is_read_of, is_same_slot, is_write_to, is_written_in, name_in, text_in}
+use Rattle.run_plan.specs.Causes.{CauseOf, IsUnwritten}
+use Rattle.run_plan.specs.Class.{Class, class_of, no_order, ended, refused, memory, open_fault, read_fault, write_fault, too_long, IsAnswer, IsLast, StopsAt}
+use Rattle.run_plan.specs.Limits.{AreWithinLimits, FitsLimit, IsLeft, greatest_text_of}
+use Rattle.run_plan.specs.Running.{Ends, HasDone, open_status_of, write_status_of}
 use Rattle.run_plan.specs.declared.status.Status.{Status}
 use Rattle.run_plan.specs.declared.status.Status.TheVariants.{Memory, OpenFault, ProfileRefused, ReadFault, WriteFault, TooLong}
+use Rattle.run_plan.proofs.Plan.{any_new, any_same, is_same_slot-own, name_in-earlier, name_in-other, name_in-own, name_in-same, none_in, not_both, same_slot, slot_differs, slot_is, some_in, text_on}
 
 -- a fact of the value in an option, where the value may be named
 pub at_some : {A : Type 0} (o : Option A) (P : A → Type 0) → ((x : A) → o ≡ Some x → P x) → IfSome o P
 at_some None P f = tt
 at_some (Some x) P f = f x refl
 
--- a slot is another one or is not
-pub same_slot : (one other : Slot) → (one ≡ other) ⊎ ((is_same_slot one other ≡ false) × (other ≢ one))
-same_slot Spectra Spectra = inl refl
-same_slot Profile Profile = inl refl
-same_slot CertIn CertIn = inl refl
-same_slot Report Report = inl refl
-same_slot CertOut CertOut = inl refl
-same_slot one other = inr (refl, λ is. cc)
+no_read : false ≡ true → ⊥
+no_read is = cc
 
-is_same_slot-own : (slot : Slot) → is_same_slot slot slot ≡ true
-is_same_slot-own Spectra = refl
-is_same_slot-own Profile = refl
-is_same_slot-own CertIn = refl
-is_same_slot-own Report = refl
-is_same_slot-own CertOut = refl
+both_kinds : (slot : Slot) → IsRead slot → IsWritten slot → ⊥
+both_kinds slot read written = no_read (sym written ∙ read)
 
-pub none_in : (found : Option (List ℕ)) → is_some found ≡ false → found ≡ None
-none_in None is = refl
-none_in (Some name) is = cc
+past : (many limit : ℕ) → many ≤ limit → limit < many → ⊥
+past many limit few more = omega arith
 
-pub some_in : (found : Option (List ℕ)) → is_some found ≡ true → (name : List ℕ) × (found ≡ Some name)
-some_in None is = cc
-some_in (Some name) is = (name, refl)
-
-if_none : (same : Bool) (name : List ℕ) (rest : Option (List ℕ)) → (if same then Some name else rest) ≡ None → (same ≡ false) × (rest ≡ None)
-if_none true name rest is = cc
-if_none false name rest is = (refl, is)
-
-if_some : (same : Bool) (own name : List ℕ) (rest more : Option (List ℕ)) → (if same then Some own else rest) ≡ Some name
-    → (rest ≡ Some name → more ≡ Some name) → (if same then Some own else more) ≡ Some name
-if_some true own name rest more is next = is
-if_some false own name rest more is next = next is
-
--- a name that no earlier begin has is that of the later ones
-pub name_in-later : (done later : List Begin) (slot : Slot) → name_in done slot ≡ None → name_in (done ++ later) slot ≡ name_in later slot
-name_in-later [] later slot none = refl
-name_in-later (begin ∷ done) later slot none =
-    let parts = if_none (is_same_slot begin.slot slot) begin.name (name_in done slot) none in
-    ap (λ (same : Bool). if same then Some begin.name else name_in (done ++ later) slot) parts.0 ∙ name_in-later done later slot parts.1
-
--- a name that an earlier begin has stays
-pub name_in-earlier : (done later : List Begin) (slot : Slot) (name : List ℕ) → name_in done slot ≡ Some name → name_in (done ++ later) slot ≡ Some name
-name_in-earlier [] later slot name is = cc
-name_in-earlier (begin ∷ done) later slot name is =
-    if_some (is_same_slot begin.slot slot) begin.name name (name_in done slot) (name_in (done ++ later) slot) is (name_in-earlier done later slot name)
-
-pub name_in-own : (done : List Begin) (begin : Begin) → name_in done begin.slot ≡ None → name_in (done ++ begin ∷ []) begin.slot ≡ Some begin.name
-name_in-own done begin none =
-    name_in-later done (begin ∷ []) begin.slot none ∙ ap (λ (same : Bool). if same then Some begin.name else None) (is_same_slot-own begin.slot)
-
-pub name_in-other : (done : List Begin) (begin : Begin) (slot : Slot) → is_same_slot begin.slot slot ≡ false → name_in (done ++ begin ∷ []) slot ≡ name_in done slot
-name_in-other done begin slot differs = by_name (name_in done slot) refl
+-- what is left of a text fits each class that does not call it too long
+pub fits : (done : Bool) (slot : Slot) (text : List ℕ) (left : Option (List ℕ)) (class : Class) → IsLeft done slot text left
+    → (class ≡ too_long slot → ⊥) → FitsLimit slot text left class
+fits true slot text left class is other =
+    (text, [], is.0, sym (append-nil text), ((λ told. absurd (other told)), λ more. absurd (past _ _ is.1 more)))
+fits false slot text left class is other =
+    ([], text, is, refl, ((λ told. absurd (other told)), λ more. absurd (none (greatest_text_of slot) more)))
   where
-    by_name : (found : Option (List ℕ)) → name_in done slot ≡ found → name_in (done ++ begin ∷ []) slot ≡ name_in done slot
-    by_name None is = name_in-later done (begin ∷ []) slot is ∙ ap (λ (same : Bool). if same then Some begin.name else None) differs ∙ sym is
-    by_name (Some name) is = name_in-earlier done (begin ∷ []) slot name is ∙ sym is
+    none : (limit : ℕ) → limit < 0 → ⊥
+    none limit more = omega arith
+
+-- the same slots begun under the same names, behind a step that begins none
+pub begun_on : (done : List Step) (step : Step) (old now : DeskState) → ((slot : Slot) → name_in (step ∷ []) slot ≡ None)
+    → HasBegun done old → Same old.begun now.begun → Same old.names now.names → HasBegun (done ++ step ∷ []) now
+begun_on done step old now none begun same names = record {
+  slots = λ slot. same slot ∙ begun.slots slot ∙ sym (ap is_some (name_in-same done step slot (none slot)));
+  names = λ slot. subst (λ o. IfSome o (λ name. IsNamed slot name now)) (sym (name_in-same done step slot (none slot)))
+      (IfSome_then (name_in done slot) (begun.names slot) (λ n told. subst (λ t. IfSome t (λ x. x ≡ n)) (sym (names slot)) told));
+}
+
+pub begun_still : (done : List Step) (old now : DeskState) → HasBegun done old → Same old.begun now.begun
+    → Same old.names now.names → HasBegun done now
+begun_still done old now begun same names = record {
+  slots = λ slot. same slot ∙ begun.slots slot;
+  names = λ slot. IfSome_then (name_in done slot) (begun.names slot) (λ n told. subst (λ t. IfSome t (λ x. x ≡ n)) (sym (names slot)) told);
+}
+
+-- before a run nothing was done
+pub done_nothing : (now : DeskState) → ((slot : Slot) → now.begun slot ≡ false) → ((slot : Slot) → now.finished slot ≡ false)
+    → IsUnwritten now → HasDone [] now now
+done_nothing now fresh unfinished unwritten = record {
+  begun = record { slots = fresh; names = λ slot. tt };
+  finished = unfinished;
+  opened = λ slot is. absurd (no_read is);
+  left = λ slot read. tt;
+  unwritten = λ slot written other. unwritten slot written;
+  gives = λ name. refl;
+  counts = λ slot. omega arith;
+}
+
+-- a slot that was not begun was not read
+pub unread : (done : List Step) (before now : DeskState) (slot : Slot) → HasDone done before now → now.begun slot ≡ false
+    → is_read_in done slot ≡ false
+unread done before now slot did fresh = by_test (is_read_in done slot) refl
+  where
+    by_test : (test : Bool) → is_read_in done slot ≡ test → is_read_in done slot ≡ false
+    by_test false is = is
+    by_test true is = absurd (not_both (now.begun slot) fresh (did.opened slot is))
 
 -- a run that begins one slot more
-pub runs_begin : (done : List Begin) (before old now : DeskState) (slot : Slot) (name : List ℕ)
-    → Runs done before old → old.begun slot ≡ false → Gains slot old.begun now.begun → IsNamed slot name now
-    → (IsRead slot → now.left slot ≡ old.gives name) → Keeps slot old now
-    → Runs (done ++ record { slot = slot; name = name } ∷ []) before now
-runs_begin done before old now slot name runs fresh gains named left keeps = record {
+pub done_begin : (done : List Step) (before old now : DeskState) (slot : Slot) (name : List ℕ)
+    → HasDone done before old → old.begun slot ≡ false → Gains slot old.begun now.begun → Same old.finished now.finished
+    → IsNamed slot name now → (IsRead slot → now.left slot ≡ old.gives name) → (IsWritten slot → IsEmpty (now.written slot))
+    → Keeps slot old now → HasDone (done ++ begin slot name ∷ []) before now
+done_begin done before old now slot name did fresh gains same named left empty keeps = record {
   begun = record { slots = slots; names = names };
-  within = within;
-  gives = λ n. keeps.gives n ∙ runs.gives n;
-  counts = λ s. omega (arith, runs.counts s, keeps.counts s);
+  finished = λ other. same other ∙ did.finished other ∙ sym (any_same (is_finish_of other) done (begin slot name) refl);
+  opened = opened;
+  left = texts;
+  unwritten = λ other written none. elim (same_slot slot other) [
+    | inl is ↦ subst (λ s. IsWritten s → IsEmpty (now.written s)) is empty written
+    | inr differs ↦ subst IsEmpty (sym (keeps.others_written other differs.1))
+        (did.unwritten other written (sym (any_same (is_write_to other) done (begin slot name) refl) ∙ none))
+  ];
+  gives = λ n. keeps.gives n ∙ did.gives n;
+  counts = λ s. omega (arith, did.counts s, keeps.counts s);
 }
   where
-    begin : Begin
-    begin = record { slot = slot; name = name }
+    own : name_in (done ++ begin slot name ∷ []) slot ≡ Some name
+    own = name_in-own done slot name (none_in (name_in done slot) (sym (did.begun.slots slot) ∙ fresh))
 
-    own : name_in (done ++ record { slot = slot; name = name } ∷ []) slot ≡ Some name
-    own = name_in-own done (record { slot = slot; name = name }) (none_in (name_in done slot) (sym (runs.begun.slots slot) ∙ fresh))
+    others : (other : Slot) → is_same_slot slot other ≡ false → name_in (done ++ begin slot name ∷ []) other ≡ name_in done other
+    others other differs = name_in-other done slot other name differs
 
-    others : (other : Slot) → is_same_slot slot other ≡ false → name_in (done ++ record { slot = slot; name = name } ∷ []) other ≡ name_in done other
-    others other differs = name_in-other done (record { slot = slot; name = name }) other differs
-
-    slots : (other : Slot) → now.begun other ≡ is_some (name_in (done ++ record { slot = slot; name = name } ∷ []) other)
+    slots : (other : Slot) → now.begun other ≡ is_some (name_in (done ++ begin slot name ∷ []) other)
     slots other = elim (same_slot slot other) [
-      | inl same ↦ subst (λ s. now.begun s ≡ is_some (name_in (done ++ record { slot = slot; name = name } ∷ []) s)) same (gains.added ∙ sym (ap is_some own))
-      | inr differs ↦ gains.others other differs.1 ∙ runs.begun.slots other ∙ sym (ap is_some (others other differs.0))
+      | inl is ↦ subst (λ s. now.begun s ≡ is_some (name_in (done ++ begin slot name ∷ []) s)) is (gains.added ∙ sym (ap is_some own))
+      | inr differs ↦ gains.others other differs.1 ∙ did.begun.slots other ∙ sym (ap is_some (others other differs.0))
     ]
 
-    names : (other : Slot) → IfSome (name_in (done ++ record { slot = slot; name = name } ∷ []) other) (λ n. IsNamed other n now)
+    names : (other : Slot) → IfSome (name_in (done ++ begin slot name ∷ []) other) (λ n. IsNamed other n now)
     names other = elim (same_slot slot other) [
-      | inl same ↦ subst (λ s. IfSome (name_in (done ++ record { slot = slot; name = name } ∷ []) s) (λ n. IsNamed s n now)) same
+      | inl is ↦ subst (λ s. IfSome (name_in (done ++ begin slot name ∷ []) s) (λ n. IsNamed s n now)) is
           (subst (λ o. IfSome o (λ n. IsNamed slot n now)) (sym own) named)
       | inr differs ↦ subst (λ o. IfSome o (λ n. IsNamed other n now)) (sym (others other differs.0))
-          (IfSome_then (name_in done other) (runs.begun.names other) (λ n told. subst (λ t. IfSome t (λ x. x ≡ n)) (sym (keeps.others_named other differs.1)) told))
+          (IfSome_then (name_in done other) (did.begun.names other)
+          (λ n told. subst (λ t. IfSome t (λ x. x ≡ n)) (sym (keeps.others_named other differs.1)) told))
     ]
 
-    within : (other : Slot) → IsRead other → IfSome (text_in (done ++ record { slot = slot; name = name } ∷ []) before other) (λ text. IsWithinLimit other text (now.left other))
-    within other read = elim (same_slot slot other) [
-      | inl same ↦ subst (λ s. IsRead s → IfSome (text_in (done ++ record { slot = slot; name = name } ∷ []) before s) (λ text. IsWithinLimit s text (now.left s))) same
-          (λ own_read. subst (λ o. IfSome (option_and_then before.gives o) (λ text. IsWithinLimit slot text (now.left slot))) (sym own)
-          (at_some (before.gives name) (λ text. IsWithinLimit slot text (now.left slot)) (λ text told. ([], text, left own_read ∙ runs.gives name ∙ told, refl, omega arith)))) read
-      | inr differs ↦ subst (λ o. IfSome (option_and_then before.gives o) (λ text. IsWithinLimit other text (now.left other))) (sym (others other differs.0))
-          (subst (λ l. IfSome (text_in done before other) (λ text. IsWithinLimit other text l)) (sym (keeps.others_left other differs.1)) (runs.within other read))
+    same_reads : (other : Slot) → is_read_in (done ++ begin slot name ∷ []) other ≡ is_read_in done other
+    same_reads other = any_same (is_read_of other) done (begin slot name) refl
+
+    opened : (other : Slot) → is_read_in (done ++ begin slot name ∷ []) other ≡ true → now.begun other ≡ true
+    opened other is = elim (same_slot slot other) [
+      | inl own_slot ↦ subst (λ s. now.begun s ≡ true) own_slot gains.added
+      | inr differs ↦ gains.others other differs.1 ∙ did.opened other (sym (same_reads other) ∙ is)
     ]
 
--- a run through a call that begins nothing
-pub runs_on : (done : List Begin) (before old now : DeskState) (slot : Slot)
-    → Runs done before old → Same old.begun now.begun
-    → IfSome (name_in done slot) (λ name. IsNamed slot name now)
-    → (IsRead slot → IfSome (text_in done before slot) (λ text. IsWithinLimit slot text (now.left slot)))
-    → Keeps slot old now
-    → Runs done before now
-runs_on done before old now slot runs same named within keeps = record {
-  begun = record {
-    slots = λ other. same other ∙ runs.begun.slots other;
-    names = λ other. elim (same_slot slot other) [
-      | inl is ↦ subst (λ s. IfSome (name_in done s) (λ n. IsNamed s n now)) is named
-      | inr differs ↦ IfSome_then (name_in done other) (runs.begun.names other) (λ n told. subst (λ t. IfSome t (λ x. x ≡ n)) (sym (keeps.others_named other differs.1)) told)
-    ];
-  };
-  within = λ other read. elim (same_slot slot other) [
-    | inl is ↦ subst (λ s. IsRead s → IfSome (text_in done before s) (λ text. IsWithinLimit s text (now.left s))) is within read
-    | inr differs ↦ subst (λ l. IfSome (text_in done before other) (λ text. IsWithinLimit other text l)) (sym (keeps.others_left other differs.1)) (runs.within other read)
+    own_text : IsRead slot → IfSome (before.gives name) (λ text. IsLeft (is_read_in (done ++ begin slot name ∷ []) slot) slot text (now.left slot))
+    own_text read = at_some (before.gives name) (λ text. IsLeft (is_read_in (done ++ begin slot name ∷ []) slot) slot text (now.left slot))
+        (λ text told. subst (λ test. IsLeft test slot text (now.left slot))
+        (sym (same_reads slot ∙ unread done before old slot did fresh)) (left read ∙ did.gives name ∙ told))
+
+    texts : (other : Slot) → IsRead other
+        → IfSome (text_in (done ++ begin slot name ∷ []) before other) (λ text. IsLeft (is_read_in (done ++ begin slot name ∷ []) other) other text (now.left other))
+    texts other is_read_slot = elim (same_slot slot other) [
+      | inl is ↦ subst (λ s. IsRead s → IfSome (text_in (done ++ begin slot name ∷ []) before s)
+          (λ text. IsLeft (is_read_in (done ++ begin slot name ∷ []) s) s text (now.left s))) is
+          (λ own_read. subst (λ o. IfSome (option_and_then before.gives o)
+          (λ text. IsLeft (is_read_in (done ++ begin slot name ∷ []) slot) slot text (now.left slot))) (sym own) (own_text own_read)) is_read_slot
+      | inr differs ↦ subst (λ o. IfSome (option_and_then before.gives o)
+          (λ text. IsLeft (is_read_in (done ++ begin slot name ∷ []) other) other text (now.left other))) (sym (others other differs.0))
+          (IfSome_then (text_in done before other) (did.left other is_read_slot) (λ text is.
+          subst (λ test. IsLeft test other text (now.left other)) (sym (same_reads other))
+          (subst (λ l. IsLeft (is_read_in done other) other text l) (sym (keeps.others_left other differs.1)) is)))
+    ]
+
+-- a run that reads a slot whole, within its limit
+pub done_read : (done : List Step) (before old now : DeskState) (slot : Slot) (result : Result (Vec ℕ Global) ReadWhole) (bytes : Vec ℕ Global)
+    → HasDone done before old → IsRead slot → is_read_in done slot ≡ false → old.begun slot ≡ true
+    → Same old.begun now.begun → Same old.finished now.finished → Same old.names now.names → Keeps slot old now
+    → IfSome (old.left slot) (λ text. (text ≡ bytes.items) × (now.left slot ≡ Some []))
+    → length bytes.items ≤ greatest_text_of slot
+    → HasDone (done ++ read slot ∷ []) before now
+done_read done before old now slot result bytes did is_read_slot first begun same_begun same_finished names keeps whole short = record {
+  begun = begun_on done (read slot) old now (λ other. refl) did.begun same_begun names;
+  finished = λ other. same_finished other ∙ did.finished other ∙ sym (any_same (is_finish_of other) done (read slot) refl);
+  opened = λ other is. elim (same_slot slot other) [
+    | inl own ↦ subst (λ s. now.begun s ≡ true) own (same_begun slot ∙ begun)
+    | inr differs ↦ same_begun other ∙ did.opened other (sym (any_same (is_read_of other) done (read slot) differs.0) ∙ is)
   ];
-  gives = λ n. keeps.gives n ∙ runs.gives n;
-  counts = λ s. omega (arith, runs.counts s, keeps.counts s);
+  left = λ other other_read. elim (same_slot slot other) [
+    | inl own ↦ subst (λ s. IfSome (text_in (done ++ read slot ∷ []) before s) (λ text. IsLeft (is_read_in (done ++ read slot ∷ []) s) s text (now.left s))) own own_text
+    | inr differs ↦ text_on done (read slot) before other (λ text. IsLeft (is_read_in (done ++ read slot ∷ []) other) other text (now.left other)) refl
+        (IfSome_then (text_in done before other) (did.left other other_read) (λ text is.
+        subst (λ test. IsLeft test other text (now.left other)) (sym (any_same (is_read_of other) done (read slot) differs.0))
+        (subst (λ l. IsLeft (is_read_in done other) other text l) (sym (keeps.others_left other differs.1)) is)))
+  ];
+  unwritten = λ other written none. subst IsEmpty (sym (keeps.others_written other (λ is. both_kinds other (ap is_read is ∙ is_read_slot) written)))
+      (did.unwritten other written (sym (any_same (is_write_to other) done (read slot) refl) ∙ none));
+  gives = λ n. keeps.gives n ∙ did.gives n;
+  counts = λ s. omega (arith, did.counts s, keeps.counts s);
+}
+  where
+    told : (text : List ℕ) → old.left slot ≡ Some text → (text ≡ bytes.items) × (now.left slot ≡ Some [])
+    told text is = MatchOption-at_some _ (λ text. (text ≡ bytes.items) × (now.left slot ≡ Some [])) text is whole
+
+    own_text : IfSome (text_in (done ++ read slot ∷ []) before slot) (λ text. IsLeft (is_read_in (done ++ read slot ∷ []) slot) slot text (now.left slot))
+    own_text = text_on done (read slot) before slot (λ text. IsLeft (is_read_in (done ++ read slot ∷ []) slot) slot text (now.left slot)) refl
+        (IfSome_then (text_in done before slot) (did.left slot is_read_slot) (λ text is.
+        let left : IsLeft false slot text (old.left slot) = subst (λ test. IsLeft test slot text (old.left slot)) first is in
+        let all = told text left in
+        subst (λ test. IsLeft test slot text (now.left slot))
+        (sym (any_new (is_read_of slot) done (read slot) (is_same_slot-own slot)))
+        (all.1, subst (λ (items : List ℕ). length items ≤ greatest_text_of slot) (sym all.0) short)))
+
+-- a run through a call on a written slot, as a step that reads and begins none
+done_with : (done : List Step) (step : Step) (before old now : DeskState) (slot : Slot)
+    → ((other : Slot) → name_in (step ∷ []) other ≡ None) → ((other : Slot) → is_read_of other step ≡ false)
+    → HasDone done before old → IsWritten slot
+    → Same old.begun now.begun → Same old.names now.names → Keeps slot old now
+    → ((other : Slot) → now.finished other ≡ is_finished_in (done ++ step ∷ []) other)
+    → ((other : Slot) → IsWritten other → is_written_in (done ++ step ∷ []) other ≡ false → IsEmpty (now.written other))
+    → HasDone (done ++ step ∷ []) before now
+done_with done step before old now slot no_name no_text did written same_begun names keeps finished unwritten = record {
+  begun = begun_on done step old now no_name did.begun same_begun names;
+  finished = finished;
+  opened = λ other is. same_begun other ∙ did.opened other (sym (any_same (is_read_of other) done step (no_text other)) ∙ is);
+  left = λ other other_read. text_on done step before other (λ text. IsLeft (is_read_in (done ++ step ∷ []) other) other text (now.left other)) (no_name other)
+      (IfSome_then (text_in done before other) (did.left other other_read) (λ text is.
+      subst (λ test. IsLeft test other text (now.left other)) (sym (any_same (is_read_of other) done step (no_text other)))
+      (subst (λ l. IsLeft (is_read_in done other) other text l)
+      (sym (keeps.others_left other (λ own. both_kinds slot (sym (ap is_read own) ∙ other_read) written))) is)));
+  unwritten = unwritten;
+  gives = λ n. keeps.gives n ∙ did.gives n;
+  counts = λ s. omega (arith, did.counts s, keeps.counts s);
 }
 
--- a run whose begin of a slot failed
-pub runs_unbegun : (done : List Begin) (before old now : DeskState) (slot : Slot)
-    → Runs done before old → old.begun slot ≡ false → Same old.begun now.begun → Keeps slot old now → Runs done before now
-runs_unbegun done before old now slot runs fresh same keeps =
-    let none : name_in done slot ≡ None = none_in (name_in done slot) (sym (runs.begun.slots slot) ∙ fresh) in
-    runs_on done before old now slot runs same
-    (subst (λ o. IfSome o (λ n. IsNamed slot n now)) (sym none) tt)
-    (λ read. subst (λ o. IfSome (option_and_then before.gives o) (λ text. IsWithinLimit slot text (now.left slot))) (sym none) tt)
-    keeps
+-- a run that writes to a slot
+pub done_write : (done : List Step) (before old now : DeskState) (slot : Slot)
+    → HasDone done before old → IsWritten slot
+    → Same old.begun now.begun → Same old.finished now.finished → Same old.names now.names → Keeps slot old now
+    → HasDone (done ++ write slot ∷ []) before now
+done_write done before old now slot did written same_begun same_finished names keeps =
+    done_with done (write slot) before old now slot (λ other. refl) (λ other. refl) did written same_begun names keeps
+    (λ other. same_finished other ∙ did.finished other ∙ sym (any_same (is_finish_of other) done (write slot) refl))
+    (λ other other_written none. elim (same_slot slot other) [
+      | inl own ↦ absurd (not_both (is_written_in (done ++ write slot ∷ []) other) none
+          (any_new (is_write_to other) done (write slot) (subst (λ s. is_same_slot slot s ≡ true) own (is_same_slot-own slot))))
+      | inr differs ↦ subst IsEmpty (sym (keeps.others_written other differs.1))
+          (did.unwritten other other_written (sym (any_same (is_write_to other) done (write slot) differs.0) ∙ none))
+    ])
 
--- a run through a call that keeps names, and its slot is no read one
-pub runs_write : (done : List Begin) (before old now : DeskState) (slot : Slot)
-    → Runs done before old → IsWritten slot → Same old.begun now.begun → Same old.names now.names → Keeps slot old now → Runs done before now
-runs_write done before old now slot runs written same names keeps =
-    runs_on done before old now slot runs same
-    (IfSome_then (name_in done slot) (runs.begun.names slot) (λ n told. subst (λ t. IfSome t (λ x. x ≡ n)) (sym (names slot)) told))
-    (λ read. absurd (both (sym written ∙ read)))
-    keeps
-  where
-    both : false ≡ true → ⊥
-    both is = cc
+-- a run that finishes a slot
+pub done_finish : (done : List Step) (before old now : DeskState) (slot : Slot)
+    → HasDone done before old → IsWritten slot
+    → Same old.begun now.begun → Gains slot old.finished now.finished → Same old.names now.names → now.written slot ≡ old.written slot
+    → Keeps slot old now
+    → HasDone (done ++ finish slot ∷ []) before now
+done_finish done before old now slot did written same_begun gains names unchanged keeps =
+    done_with done (finish slot) before old now slot (λ other. refl) (λ other. refl) did written same_begun names keeps
+    (λ other. elim (same_slot slot other) [
+      | inl own ↦ subst (λ s. now.finished s ≡ is_finished_in (done ++ finish slot ∷ []) s) own
+          (gains.added ∙ sym (any_new (is_finish_of slot) done (finish slot) (is_same_slot-own slot)))
+      | inr differs ↦ gains.others other differs.1 ∙ did.finished other ∙ sym (any_same (is_finish_of other) done (finish slot) differs.0)
+    ])
+    (λ other other_written none. subst IsEmpty (sym (same_bytes old now slot unchanged keeps other))
+    (did.unwritten other other_written (sym (any_same (is_write_to other) done (finish slot) refl) ∙ none)))
 
--- a run that read a slot, not past its limit
-pub runs_read : (done : List Begin) (before old now : DeskState) (slot : Slot) (result : Result (Vec ℕ Global) ReadWhole)
-    → Runs done before old → Same old.begun now.begun → Same old.names now.names → Keeps slot old now
-    → old.left slot ≡ text_in done before slot
-    → IfSome (old.left slot) (ReadsWhole (greatest_text_of slot) (now.left slot) result)
-    → result ≢ Err Read.TooLong
-    → Runs done before now
-runs_read done before old now slot result runs same names keeps unread whole other =
-    runs_on done before old now slot runs same
-    (IfSome_then (name_in done slot) (runs.begun.names slot) (λ n told. subst (λ t. IfSome t (λ x. x ≡ n)) (sym (names slot)) told))
-    (λ read. subst (λ o. IfSome o (λ text. IsWithinLimit slot text (now.left slot))) unread
-    (IfSome_then (old.left slot) whole (λ text reads. (reads.read, reads.rest, reads.rest_is_left, reads.parts, few _ _ (λ more. other (reads.too_long.1 more))))))
-    keeps
-  where
-    few : (limit many : ℕ) → (limit < many → ⊥) → many ≤ limit
-    few limit many not_more = grind (arith, lt_of_not-le, not_more)
-
--- texts that were read within their limits fit each class that calls none too long
-pub limits_fit : (done : List Begin) (before now : DeskState) (class : Class) → Runs done before now → ((slot : Slot) → class ≡ too_long slot → ⊥) → FitLimits done before now class
-limits_fit done before now class runs other = λ slot read.
-    IfSome_then (text_in done before slot) (runs.within slot read) (λ text w. (w.0, w.1, w.2, w.3, ((λ told. absurd (other slot told)), λ more. absurd (past _ _ w.4 more))))
-  where
-    past : (many limit : ℕ) → many ≤ limit → limit < many → ⊥
-    past many limit few more = omega arith
+-- a call that leaves the bytes of its own slot leaves those of each
+pub same_bytes : (old now : DeskState) (slot : Slot) → now.written slot ≡ old.written slot → Keeps slot old now
+    → (other : Slot) → now.written other ≡ old.written other
+same_bytes old now slot unchanged keeps other = elim (same_slot slot other) [
+  | inl own ↦ subst (λ s. now.written s ≡ old.written s) own unchanged
+  | inr differs ↦ keeps.others_written other differs.1
+]
 
 -- texts within their limits are answered where no fault is counted and memory is there
-answers_of : (done rest : List Begin) (before now : DeskState) (class : Class) → HasBegun done now → FitLimits done before now class
-    → CauseOf before now class → class ≢ no_order → AreWithinLimits (done ++ rest) before → ((slot : Slot) → IsCounted slot before now → ⊥)
+answers_of : (done rest : List Step) (before now : DeskState) (class : Class) → StopsAt class done rest → HasBegun done now
+    → ((slot : Slot) → IsRead slot → is_next (is_read_of slot) rest ≡ true
+    → IfSome (text_in done before slot) (λ text. FitsLimit slot text (now.left slot) class))
+    → CauseOf before now class → AreWithinLimits (done ++ rest) before → ((slot : Slot) → IsCounted slot before now → ⊥)
     → IsAnswer class ⊎ (class ≡ memory)
-answers_of done rest before now no_order begun limits cause ordered short none = absurd (ordered refl)
-answers_of done rest before now ended begun limits cause ordered short none = inl tt
-answers_of done rest before now (refused slot) begun limits cause ordered short none = inl tt
-answers_of done rest before now memory begun limits cause ordered short none = inr refl
-answers_of done rest before now (open_fault slot) begun limits cause ordered short none = absurd (none slot cause.0)
-answers_of done rest before now (read_fault slot) begun limits cause ordered short none = absurd (none slot cause.1)
-answers_of done rest before now (write_fault slot) begun limits cause ordered short none = absurd (none slot cause.1)
-answers_of done rest before now (too_long slot) begun limits cause ordered short none =
+answers_of done rest before now no_order stop begun reached cause short none = absurd stop
+answers_of done rest before now ended stop begun reached cause short none = inl tt
+answers_of done rest before now (refused slot) stop begun reached cause short none = inl tt
+answers_of done rest before now memory stop begun reached cause short none = inr refl
+answers_of done rest before now (open_fault slot) stop begun reached cause short none = absurd (none slot cause.0)
+answers_of done rest before now (read_fault slot) stop begun reached cause short none = absurd (none slot cause.1)
+answers_of done rest before now (write_fault slot) stop begun reached cause short none = absurd (none slot cause.1)
+answers_of done rest before now (too_long slot) stop begun reached cause short none =
     let named = some_in (name_in done slot) (sym (begun.slots slot) ∙ cause.1) in
     let told = MatchOption-at_some _ (λ name. (text : List ℕ) × (before.gives name ≡ Some text) × (length text ≤ greatest_text_of slot)) named.0
     (name_in-earlier done rest slot named.0 named.1) (short slot cause.0) in
-    let fits = MatchOption-at_some _ (λ text. FitsLimit slot text (now.left slot) (too_long slot)) told.0
-    (ap (option_and_then before.gives) named.1 ∙ told.1) (limits slot cause.0) in
-    absurd (longer _ _ _ (greatest_text_of slot) fits.3 told.2 (fits.4.0 refl))
+    let fit = MatchOption-at_some _ (λ text. FitsLimit slot text (now.left slot) (too_long slot)) told.0
+    (ap (option_and_then before.gives) named.1 ∙ told.1) (reached slot cause.0 (ap (is_next (is_read_of slot)) stop.1 ∙ is_same_slot-own slot)) in
+    absurd (longer _ _ _ (greatest_text_of slot) fit.3 told.2 (fit.4.0 refl))
   where
     longer : (text read left : List ℕ) (limit : ℕ) → text ≡ read ++ left → length text ≤ limit → limit < length read → ⊥
     longer text read left limit parts few more = omega (arith, ap length parts ∙ length-append read left, few, more)
 
--- what a run in its order owes at its end
-pub ends_of : (order done rest : List Begin) (before now : DeskState) (status : Status)
-    → order ≡ done ++ rest
-    → HasBegun done now
-    → FitLimits done before now (class_of status)
-    → Causes before now status
-    → class_of status ≢ no_order
-    → (IsPastBegins (class_of status) → rest ≡ [])
-    → ((slot : Slot) → class_of status ≡ open_fault slot → IsNext slot rest)
-    → (IsAnswer (class_of status) → AreReadWhole done before now)
-    → Ends order before now status
-ends_of order done rest before now status parts begun limits causes ordered first next whole = record {
-  causes = causes;
+-- what a run over its plan owes at its end
+pub ends_of : (done rest : List Step) (before now : DeskState) (status : Status)
+    → StopsAt (class_of status) done rest → CauseOf before now (class_of status)
+    → HasBegun done now → ((slot : Slot) → now.finished slot ≡ is_finished_in done slot)
+    → ((slot : Slot) → IsRead slot → is_next (is_read_of slot) rest ≡ false
+    → IfSome (text_in done before slot) (λ text. IsLeft (is_read_in done slot) slot text (now.left slot)))
+    → ((slot : Slot) → IsRead slot → is_next (is_read_of slot) rest ≡ true
+    → IfSome (text_in done before slot) (λ text. FitsLimit slot text (now.left slot) (class_of status)))
+    → ((slot : Slot) → IsWritten slot → is_written_in done slot ≡ false → is_next (is_write_to slot) rest ≡ false → IsEmpty (now.written slot))
+    → Ends (done ++ rest) before now status
+ends_of done rest before now status stop cause begun finished left reached unwritten = record {
+  causes = cause;
   steps = record {
     done = done;
     rest = rest;
-    parts = parts;
+    parts = refl;
+    stop = stop;
     begun = begun;
-    first = first;
-    next = next;
-    limits = limits;
-    whole = whole;
-    answers = λ short none. answers_of done rest before now (class_of status) begun limits causes.cause ordered
-        (subst (λ (begins : List Begin). AreWithinLimits begins before) parts short) none;
+    finished = finished;
+    left = left;
+    reached = reached;
+    unwritten = unwritten;
+    answers = λ short none. answers_of done rest before now (class_of status) stop begun reached cause short none;
   };
 }
 
+-- the end of a run that stands where its steps have brought it
+pub done_ends : (done rest : List Step) (before now : DeskState) (status : Status) → HasDone done before now
+    → StopsAt (class_of status) done rest → CauseOf before now (class_of status)
+    → ((slot : Slot) → class_of status ≡ too_long slot → ⊥)
+    → Ends (done ++ rest) before now status
+done_ends done rest before now status did stop cause other =
+    ends_of done rest before now status stop cause did.begun did.finished (λ slot read none. did.left slot read)
+    (λ slot read next. IfSome_then (text_in done before slot) (did.left slot read)
+    (λ text is. fits (is_read_in done slot) slot text (now.left slot) (class_of status) is (other slot)))
+    (λ slot written none none_next. did.unwritten slot written none)
+
 -- want of memory
-pub memory_ends : (done rest : List Begin) (before now : DeskState) → Runs done before now → Ends (done ++ rest) before now Memory
-memory_ends done rest before now runs =
-    ends_of (done ++ rest) done rest before now Memory refl runs.begun (limits_fit done before now memory runs (λ slot told. cc))
-    (record { cause = tt; nothing = λ w. absurd w }) (λ is. cc) (λ past. absurd past) (λ slot told. cc) (λ answer. absurd answer)
+pub memory_ends : (done rest : List Step) (before now : DeskState) → HasDone done before now → Ends (done ++ rest) before now Memory
+memory_ends done rest before now did = done_ends done rest before now Memory did tt tt (λ slot told. cc)
 
--- a slot that could not be begun
-pub open_ends : (done later : List Begin) (before now : DeskState) (slot : Slot) (name : List ℕ) → Runs done before now
-    → IsCounted slot before now → now.begun slot ≡ false → IsUnwritten now
-    → Ends (done ++ record { slot = slot; name = name } ∷ later) before now (OpenFault slot)
-open_ends done later before now slot name runs counted unbegun unwritten =
-    ends_of (done ++ record { slot = slot; name = name } ∷ later) done (record { slot = slot; name = name } ∷ later) before now (OpenFault slot) refl
-    runs.begun (limits_fit done before now (open_fault slot) runs (λ other told. cc))
-    (record { cause = (counted, unbegun); nothing = λ w. unwritten }) (λ is. cc) (λ past. absurd past) (λ other told. same other told) (λ answer. absurd answer)
+-- a call that changed no more than counts leaves what was done
+pub done_still : (done : List Step) (before old now : DeskState) (slot : Slot) → HasDone done before old → old.begun slot ≡ false
+    → Same old.begun now.begun → Same old.finished now.finished → (IsWritten slot → IsEmpty (now.written slot)) → Keeps slot old now
+    → HasDone done before now
+done_still done before old now slot did fresh same_begun same_finished empty keeps = record {
+  begun = record { slots = λ other. same_begun other ∙ did.begun.slots other; names = names };
+  finished = λ other. same_finished other ∙ did.finished other;
+  opened = λ other is. same_begun other ∙ did.opened other is;
+  left = texts;
+  unwritten = λ other written not_written. elim (same_slot slot other) [
+    | inl own ↦ subst (λ s. IsWritten s → IsEmpty (now.written s)) own empty written
+    | inr differs ↦ subst IsEmpty (sym (keeps.others_written other differs.1)) (did.unwritten other written not_written)
+  ];
+  gives = λ n. keeps.gives n ∙ did.gives n;
+  counts = λ s. omega (arith, did.counts s, keeps.counts s);
+}
   where
-    same : (other : Slot) → open_fault slot ≡ open_fault other → slot ≡ other
-    same other told = cc
+    none : name_in done slot ≡ None
+    none = none_in (name_in done slot) (sym (did.begun.slots slot) ∙ fresh)
 
--- a read that failed
-pub read_ends : (done rest : List Begin) (before now : DeskState) (slot : Slot) → Runs done before now
-    → IsRead slot → IsCounted slot before now → now.begun slot ≡ true → IsUnwritten now → (slot ≢ Profile → rest ≡ [])
-    → Ends (done ++ rest) before now (ReadFault slot)
-read_ends done rest before now slot runs read counted begun unwritten first =
-    ends_of (done ++ rest) done rest before now (ReadFault slot) refl
-    runs.begun (limits_fit done before now (read_fault slot) runs (λ other told. cc))
-    (record { cause = (read, counted, begun); nothing = λ w. unwritten }) (λ is. cc) first (λ other told. cc) (λ answer. absurd answer)
-
--- a text that is too long
-pub long_ends : (done rest : List Begin) (before old now : DeskState) (slot : Slot) (result : Result (Vec ℕ Global) ReadWhole) → Runs done before old
-    → IsRead slot → Same old.begun now.begun → Same old.names now.names → Keeps slot old now → old.begun slot ≡ true
-    → old.left slot ≡ text_in done before slot
-    → IfSome (old.left slot) (ReadsWhole (greatest_text_of slot) (now.left slot) result)
-    → result ≡ Err Read.TooLong
-    → IsUnwritten now → (slot ≢ Profile → rest ≡ [])
-    → Ends (done ++ rest) before now (TooLong slot)
-long_ends done rest before old now slot result runs read same names keeps begun unread whole long unwritten first =
-    ends_of (done ++ rest) done rest before now (TooLong slot) refl has_begun limits
-    (record { cause = (read, same slot ∙ begun); nothing = λ w. unwritten }) (λ is. cc) first (λ other told. cc) (λ answer. absurd answer)
-  where
-    has_begun : HasBegun done now
-    has_begun = record {
-      slots = λ other. same other ∙ runs.begun.slots other;
-      names = λ other. IfSome_then (name_in done other) (runs.begun.names other) (λ n told. subst (λ t. IfSome t (λ x. x ≡ n)) (sym (names other)) told);
-    }
-
-    past : (many limit : ℕ) → many ≤ limit → limit < many → ⊥
-    past many limit few more = omega arith
-
-    same_one : (other : Slot) → too_long slot ≡ too_long other → other ≡ slot
-    same_one other told = cc
-
-    of_own : IfSome (text_in done before slot) (λ text. FitsLimit slot text (now.left slot) (too_long slot))
-    of_own = subst (λ o. IfSome o (λ text. FitsLimit slot text (now.left slot) (too_long slot))) unread
-        (IfSome_then (old.left slot) whole (λ text reads. (reads.read, reads.rest, reads.rest_is_left, reads.parts, ((λ told. reads.too_long.0 long), λ more. refl))))
-
-    limits : FitLimits done before now (too_long slot)
-    limits other read_other = elim (same_slot slot other) [
-      | inl is ↦ subst (λ s. IfSome (text_in done before s) (λ text. FitsLimit s text (now.left s) (too_long slot))) is of_own
-      | inr differs ↦ subst (λ l. IfSome (text_in done before other) (λ text. FitsLimit other text l (too_long slot))) (sym (keeps.others_left other differs.1))
-          (IfSome_then (text_in done before other) (runs.within other read_other) (λ text w. (w.0, w.1, w.2, w.3, ((λ told. absurd (differs.1 (same_one other told))), λ more. absurd (past _ _ w.4 more)))))
+    names : (other : Slot) → IfSome (name_in done other) (λ name. IsNamed other name now)
+    names other = elim (same_slot slot other) [
+      | inl own ↦ subst (λ s. IfSome (name_in done s) (λ name. IsNamed s name now)) own
+          (subst (λ o. IfSome o (λ name. IsNamed slot name now)) (sym none) tt)
+      | inr differs ↦ IfSome_then (name_in done other) (did.begun.names other)
+          (λ n told. subst (λ t. IfSome t (λ x. x ≡ n)) (sym (keeps.others_named other differs.1)) told)
     ]
 
--- a write or an end of a slot that failed
-pub write_ends : (order : List Begin) (before now : DeskState) (slot : Slot) → Runs order before now
-    → IsWritten slot → IsCounted slot before now → now.begun slot ≡ true → Ends order before now (WriteFault slot)
-write_ends order before now slot runs written counted begun =
-    ends_of order order [] before now (WriteFault slot) (sym (append-nil order))
-    runs.begun (limits_fit order before now (write_fault slot) runs (λ other told. cc))
-    (record { cause = (written, counted, begun); nothing = λ w. absurd w }) (λ is. cc) (λ past. refl) (λ other told. cc) (λ answer. absurd answer)
+    texts : (other : Slot) → IsRead other → IfSome (text_in done before other) (λ text. IsLeft (is_read_in done other) other text (now.left other))
+    texts other other_read = elim (same_slot slot other) [
+      | inl own ↦ subst (λ s. IfSome (text_in done before s) (λ text. IsLeft (is_read_in done s) s text (now.left s))) own
+          (subst (λ o. IfSome (option_and_then before.gives o) (λ text. IsLeft (is_read_in done slot) slot text (now.left slot))) (sym none) tt)
+      | inr differs ↦ IfSome_then (text_in done before other) (did.left other other_read)
+          (λ text is. subst (λ l. IsLeft (is_read_in done other) other text l) (sym (keeps.others_left other differs.1)) is)
+    ]
 
--- the end of all work
-pub ended_ends : (order : List Begin) (before now : DeskState) (status : Status) → class_of status ≡ ended → Runs order before now
-    → AreReadWhole order before now
-    → ((slot : Slot) → IsWritten slot → now.begun slot ≡ true → now.finished slot ≡ true)
-    → Ends order before now status
-ended_ends order before now status is runs whole finished =
-    ends_of order order [] before now status (sym (append-nil order)) runs.begun
-    (limits_fit order before now (class_of status) runs (λ slot told. not_long slot (sym is ∙ told)))
-    (record { cause = subst (CauseOf before now) (sym is) finished; nothing = λ w. absurd (subst WritesNothing is w) })
-    (λ other. not_words (sym is ∙ other)) (λ past. refl) (λ slot told. absurd (not_open slot (sym is ∙ told))) (λ answer. whole)
-  where
-    not_long : (slot : Slot) → ended ≡ too_long slot → ⊥
-    not_long slot told = cc
-
-    not_words : ended ≡ no_order → ⊥
-    not_words told = cc
-
-    not_open : (slot : Slot) → ended ≡ open_fault slot → ⊥
-    not_open slot told = cc
+-- a slot that could not be begun, or there was no memory for it
+pub unbegun_ends : (done later : List Step) (before old now : DeskState) (slot : Slot) (name : List ℕ) (fault : DeskFault)
+    → HasDone done before old → old.begun slot ≡ false → Same old.begun now.begun → Same old.finished now.finished
+    → (IsWritten slot → IsEmpty (now.written slot)) → Keeps slot old now → (fault ≡ Fault.Failed → IsCounted slot old now)
+    → Ends (done ++ begin slot name ∷ later) before now (open_status_of slot fault)
+unbegun_ends done later before old now slot name Fault.Failed did fresh same_begun same_finished empty keeps counted =
+    done_ends done (begin slot name ∷ later) before now (OpenFault slot)
+    (done_still done before old now slot did fresh same_begun same_finished empty keeps) (name, later, refl)
+    (counted_since slot before old now (did.counts slot) (counted refl), same_begun slot ∙ fresh) (λ other told. cc)
+unbegun_ends done later before old now slot name Fault.OutOfMemory did fresh same_begun same_finished empty keeps counted =
+    memory_ends done (begin slot name ∷ later) before now (done_still done before old now slot did fresh same_begun same_finished empty keeps)
 
 -- counts of a later part of a run are counts of all of it
 pub counted_since : (slot : Slot) (before old now : DeskState) → before.faults slot ≤ old.faults slot → IsCounted slot old now → IsCounted slot before now
 counted_since slot before old now rose counted = omega (arith, rose, counted)
 
--- a failed write or end of a slot
-pub failed_write_ends : (order : List Begin) (before old now : DeskState) (slot : Slot) (fault : DeskFault) → Runs order before old
-    → IsWritten slot → old.begun slot ≡ true → Same old.begun now.begun → Same old.names now.names → Keeps slot old now
-    → (fault ≡ Fault.Failed → IsCounted slot old now)
-    → Ends order before now (write_status_of slot fault)
-failed_write_ends order before old now slot Fault.Failed runs written begun same names keeps counted =
-    write_ends order before now slot (runs_write order before old now slot runs written same names keeps) written
-    (counted_since slot before old now (runs.counts slot) (counted refl)) (same slot ∙ begun)
-failed_write_ends order before old now slot Fault.OutOfMemory runs written begun same names keeps counted =
-    subst (λ (begins : List Begin). Ends begins before now Memory) (append-nil order)
-    (memory_ends order [] before now (runs_write order before old now slot runs written same names keeps))
-
--- a call on a read slot writes nothing
-pub unwritten_read : (old now : DeskState) (slot : Slot) → IsUnwritten old → IsRead slot → Keeps slot old now → IsUnwritten now
-unwritten_read old now slot unwritten read keeps = λ other written.
-    subst IsEmpty (sym (keeps.others_written other (λ same. other_kind (sym written ∙ ap is_read same ∙ read)))) (unwritten other written)
+-- the status of a slot that was not read whole
+pub unread_ends : (done later : List Step) (before old now : DeskState) (slot : Slot) (status : Status) (result : Result (Vec ℕ Global) ReadWhole)
+    → HasDone done before old → IsRead slot → is_read_in done slot ≡ false
+    → Same old.begun now.begun → Same old.finished now.finished → Same old.names now.names → Keeps slot old now
+    → IfSome (old.left slot) (ReadsWhole (greatest_text_of slot) (now.left slot) result)
+    → ((class_of status ≡ too_long slot) ↔ (result ≡ Err Read.TooLong))
+    → StopsAt (class_of status) done (read slot ∷ later) → CauseOf before now (class_of status)
+    → Ends (done ++ read slot ∷ later) before now status
+unread_ends done later before old now slot status result did is_read_slot first same_begun same_finished names keeps reads long stop cause =
+    ends_of done (read slot ∷ later) before now status stop cause (begun_still done old now did.begun same_begun names)
+    (λ other. same_finished other ∙ did.finished other)
+    (λ other other_read differs. IfSome_then (text_in done before other) (did.left other other_read) (λ text is.
+    subst (λ l. IsLeft (is_read_in done other) other text l) (sym (keeps.others_left other (slot_differs slot other differs))) is))
+    (λ other other_read own. subst (λ s. IfSome (text_in done before s) (λ text. FitsLimit s text (now.left s) (class_of status)))
+    (slot_is slot other own) own_text)
+    (λ other written none none_next. subst IsEmpty (sym (keeps.others_written other (λ is. both_kinds other (ap is_read is ∙ is_read_slot) written)))
+    (did.unwritten other written none))
   where
-    other_kind : false ≡ true → ⊥
-    other_kind is = cc
+    own_text : IfSome (text_in done before slot) (λ text. FitsLimit slot text (now.left slot) (class_of status))
+    own_text = IfSome_then (text_in done before slot) (did.left slot is_read_slot) (λ text is.
+        let left : old.left slot ≡ Some text = subst (λ test. IsLeft test slot text (old.left slot)) first is in
+        let all = MatchOption-at_some _ (ReadsWhole (greatest_text_of slot) (now.left slot) result) text left reads in
+        (all.read, all.rest, all.rest_is_left, all.parts, ((λ told. all.too_long.0 (long.0 told)), λ more. long.1 (all.too_long.1 more))))
 
--- before a run nothing was begun
-pub runs_start : (now : DeskState) → ((slot : Slot) → now.begun slot ≡ false) → Runs [] now now
-runs_start now fresh = record {
-  begun = record { slots = fresh; names = λ slot. tt };
-  within = λ slot read. tt;
-  gives = λ name. refl;
-  counts = λ slot. omega arith;
-}
+-- a write to a slot that failed, or there was no memory for it
+pub failed_write_ends : (done later : List Step) (before old now : DeskState) (slot : Slot) (fault : DeskFault)
+    → HasDone done before old → IsWritten slot → old.begun slot ≡ true
+    → Same old.begun now.begun → Same old.finished now.finished → Same old.names now.names → Keeps slot old now
+    → (fault ≡ Fault.Failed → IsCounted slot old now)
+    → Ends (done ++ write slot ∷ later) before now (write_status_of slot fault)
+failed_write_ends done later before old now slot fault did written begun same_begun same_finished names keeps counted = by_fault fault counted
+  where
+    with_status : (status : Status) → StopsAt (class_of status) done (write slot ∷ later) → CauseOf before now (class_of status)
+        → ((other : Slot) → class_of status ≡ too_long other → ⊥) → Ends (done ++ write slot ∷ later) before now status
+    with_status status stop cause not_long =
+        ends_of done (write slot ∷ later) before now status stop cause (begun_still done old now did.begun same_begun names)
+        (λ other. same_finished other ∙ did.finished other)
+        (λ other other_read none. IfSome_then (text_in done before other) (did.left other other_read) (λ text is.
+        subst (λ l. IsLeft (is_read_in done other) other text l)
+        (sym (keeps.others_left other (λ own. both_kinds slot (sym (ap is_read own) ∙ other_read) written))) is))
+        (λ other other_read next. absurd (no_read next))
+        (λ other other_written none differs. subst IsEmpty (sym (keeps.others_written other (slot_differs slot other differs)))
+        (did.unwritten other other_written none))
 
--- what a read slot gave is refused, and nothing was written
-pub refused_ends : (done rest : List Begin) (before now : DeskState) (slot : Slot) (status : Status)
-    → class_of status ≡ refused slot → IsRead slot → (slot ≢ Profile → rest ≡ []) → Runs done before now → AreReadWhole done before now
-    → now.begun slot ≡ true → IsUnwritten now → Ends (done ++ rest) before now status
-refused_ends done rest before now slot status is read first runs whole begun unwritten =
-    ends_of (done ++ rest) done rest before now status refl
-    runs.begun (limits_fit done before now (class_of status) runs (λ other told. not_long other (sym is ∙ told)))
-    (record { cause = subst (CauseOf before now) (sym is) (read, begun); nothing = λ w. unwritten }) (λ told. not_words (sym is ∙ told))
-    (λ past. first (subst IsPastBegins is past)) (λ other told. absurd (not_open other (sym is ∙ told))) (λ answer. whole)
+    by_fault : (fault : DeskFault) → (fault ≡ Fault.Failed → IsCounted slot old now) → Ends (done ++ write slot ∷ later) before now (write_status_of slot fault)
+    by_fault Fault.Failed counted = with_status (WriteFault slot) (inl (later, refl))
+        (written, counted_since slot before old now (did.counts slot) (counted refl), same_begun slot ∙ begun) (λ other told. cc)
+    by_fault Fault.OutOfMemory counted = with_status Memory tt tt (λ other told. cc)
+
+-- an end of a slot that failed
+pub failed_finish_ends : (done later : List Step) (before old now : DeskState) (slot : Slot) (fault : DeskFault)
+    → HasDone done before old → IsWritten slot → old.begun slot ≡ true
+    → Same old.begun now.begun → Same old.finished now.finished → Same old.names now.names → now.written slot ≡ old.written slot
+    → Keeps slot old now → (fault ≡ Fault.Failed → IsCounted slot old now)
+    → Ends (done ++ finish slot ∷ later) before now (write_status_of slot fault)
+failed_finish_ends done later before old now slot fault did written begun same_begun same_finished names unchanged keeps counted = by_fault fault counted
+  where
+    with_status : (status : Status) → StopsAt (class_of status) done (finish slot ∷ later) → CauseOf before now (class_of status)
+        → ((other : Slot) → class_of status ≡ too_long other → ⊥) → Ends (done ++ finish slot ∷ later) before now status
+    with_status status stop cause not_long =
+        ends_of done (finish slot ∷ later) before now status stop cause (begun_still done old now did.begun same_begun names)
+        (λ other. same_finished other ∙ did.finished other)
+        (λ other other_read none. IfSome_then (text_in done before other) (did.left other other_read) (λ text is.
+        subst (λ l. IsLeft (is_read_in done other) other text l)
+        (sym (keeps.others_left other (λ own. both_kinds slot (sym (ap is_read own) ∙ other_read) written))) is))
+        (λ other other_read next. absurd (no_read next))
+        (λ other other_written none none_next. subst IsEmpty (sym (same_bytes old now slot unchanged keeps other))
+        (did.unwritten other other_written none))
+
+    by_fault : (fault : DeskFault) → (fault ≡ Fault.Failed → IsCounted slot old now) → Ends (done ++ finish slot ∷ later) before now (write_status_of slot fault)
+    by_fault Fault.Failed counted = with_status (WriteFault slot) (inr (later, refl))
+        (written, counted_since slot before old now (did.counts slot) (counted refl), same_begun slot ∙ begun) (λ other told. cc)
+    by_fault Fault.OutOfMemory counted = with_status Memory tt tt (λ other told. cc)
+
+-- the end of all work
+pub ended_ends : (plan : List Step) (before now : DeskState) (status : Status) → class_of status ≡ ended → HasDone plan before now
+    → ((slot : Slot) → IsWritten slot → now.begun slot ≡ true → now.finished slot ≡ true)
+    → Ends plan before now status
+ended_ends plan before now status is did finished =
+    subst (λ (steps : List Step). Ends steps before now status) (append-nil plan)
+    (done_ends plan [] before now status did (subst (λ class. StopsAt class plan []) (sym is) refl)
+    (subst (CauseOf before now) (sym is) finished) (λ slot told. not_long slot (sym is ∙ told)))
+  where
+    not_long : (slot : Slot) → ended ≡ too_long slot → ⊥
+    not_long slot told = cc
+
+-- what a read slot gave is refused
+pub refused_ends : (done rest : List Step) (before now : DeskState) (slot : Slot) (status : Status)
+    → class_of status ≡ refused slot → IsRead slot → now.begun slot ≡ true → HasDone (done ++ read slot ∷ []) before now
+    → Ends ((done ++ read slot ∷ []) ++ rest) before now status
+refused_ends done rest before now slot status is is_read_slot begun did =
+    done_ends (done ++ read slot ∷ []) rest before now status did
+    (subst (λ class. StopsAt class (done ++ read slot ∷ []) rest) (sym is) (done, refl))
+    (subst (CauseOf before now) (sym is) (is_read_slot, begun)) (λ other told. not_long other (sym is ∙ told))
   where
     not_long : (other : Slot) → refused slot ≡ too_long other → ⊥
     not_long other told = cc
 
-    not_words : refused slot ≡ no_order → ⊥
-    not_words told = cc
-
-    not_open : (other : Slot) → refused slot ≡ open_fault other → ⊥
-    not_open other told = cc
-
-refused_profile : (done rest : List Begin) (before now : DeskState) (fault : ProfileFault) → Runs done before now
-    → AreReadWhole done before now → now.begun Profile ≡ true → IsUnwritten now → Ends (done ++ rest) before now (ProfileRefused fault)
-refused_profile done rest before now fault runs whole begun unwritten =
-    refused_ends done rest before now Profile (ProfileRefused fault) refl refl (λ other. absurd (other refl)) runs whole begun unwritten
+refused_profile : (rest : List Step) (before now : DeskState) (name : List ℕ) (fault : ProfileFault)
+    → HasDone (begin Profile name ∷ read Profile ∷ []) before now → now.begun Profile ≡ true
+    → Ends ((begin Profile name ∷ read Profile ∷ []) ++ rest) before now (ProfileRefused fault)
+refused_profile rest before now name fault did begun =
+    refused_ends (begin Profile name ∷ []) rest before now Profile (ProfileRefused fault) refl refl begun did
 
 -- a profile that was not read for this fault
-pub refusal_ends : (done rest : List Begin) (before now : DeskState) (fault : ProfileFault) → Runs done before now → AreReadWhole done before now
-    → now.begun Profile ≡ true → IsUnwritten now → Ends (done ++ rest) before now (refusal_of fault)
-refusal_ends done rest before now P.OutOfMemory runs whole begun unwritten = memory_ends done rest before now runs
-refusal_ends done rest before now P.NotToml runs whole begun unwritten =
-    refused_profile done rest before now P.NotToml runs whole begun unwritten
-refusal_ends done rest before now (P.UnknownKey key) runs whole begun unwritten =
-    refused_profile done rest before now (P.UnknownKey key) runs whole begun unwritten
-refusal_ends done rest before now (P.BadValue key) runs whole begun unwritten =
-    refused_profile done rest before now (P.BadValue key) runs whole begun unwritten
-refusal_ends done rest before now (P.OverLimit key number) runs whole begun unwritten =
-    refused_profile done rest before now (P.OverLimit key number) runs whole begun unwritten
-
--- the text of a profile that was read to its end
-pub whole_profile : (name : List ℕ) (before now : DeskState) → IfSome (before.gives name) (λ text. now.left Profile ≡ Some []) → AreReadWhole (profile_begin (Some name)) before now
-whole_profile name before now whole Profile read = whole
-whole_profile name before now whole slot read = tt
-
--- the end of a run that has no begins to make
-pub ends_all : (order : List Begin) (before now : DeskState) (status : Status) → Ends (order ++ []) before now status
-    → Ends order before now status
-ends_all order before now status = subst (λ (begins : List Begin). Ends begins before now status) (append-nil order)
-
--- want of memory, where all begins were made
-pub memory_ends_all : (order : List Begin) (before now : DeskState) → Runs order before now → Ends order before now Memory
-memory_ends_all order before now runs = ends_all order before now Memory (memory_ends order [] before now runs)
+pub refusal_ends : (rest : List Step) (before now : DeskState) (name : List ℕ) (fault : ProfileFault)
+    → HasDone (begin Profile name ∷ read Profile ∷ []) before now → now.begun Profile ≡ true
+    → Ends ((begin Profile name ∷ read Profile ∷ []) ++ rest) before now (refusal_of fault)
+refusal_ends rest before now name P.OutOfMemory did begun = memory_ends (begin Profile name ∷ read Profile ∷ []) rest before now did
+refusal_ends rest before now name P.NotToml did begun = refused_profile rest before now name P.NotToml did begun
+refusal_ends rest before now name (P.UnknownKey key) did begun = refused_profile rest before now name (P.UnknownKey key) did begun
+refusal_ends rest before now name (P.BadValue key) did begun = refused_profile rest before now name (P.BadValue key) did begun
+refusal_ends rest before now name (P.OverLimit key number) did begun =
+    refused_profile rest before now name (P.OverLimit key number) did begun

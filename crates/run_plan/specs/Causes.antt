@@ -5,7 +5,7 @@ use Rattle.frag_io.specs.DeskState.{DeskState}
 use Rattle.frag_io.specs.Slot.{IsRead, IsWritten}
 use Rattle.frag_io.specs.Desk.{IsCounted, IsEmpty}
 use Rattle.run_plan.specs.declared.status.Status.{Status}
-use Rattle.run_plan.specs.Class.{Class, class_of, ended, refused, open_fault, read_fault, write_fault, too_long, WritesNothing}
+use Rattle.run_plan.specs.Class.{Class, class_of, ended, refused, open_fault, read_fault, write_fault, too_long}
 
 -- where the bytes of the written slots are told, there are none
 abbrev pub IsUnwritten : DeskState → Type 0
@@ -23,7 +23,6 @@ CauseOf before now (refused slot) = IsRead slot × (now.begun slot ≡ true)
 CauseOf before now ended = (slot : Slot) → IsWritten slot → now.begun slot ≡ true → now.finished slot ≡ true
 CauseOf before now class = ⊤
 
--- A status has the cause of its class, and after some nothing was written.
-pub record Causes (before now : DeskState) (status : Status) : Type 0 where
-  pub cause : CauseOf before now (class_of status)
-  pub nothing : WritesNothing (class_of status) → IsUnwritten now
+-- A status has the cause of its class.
+abbrev pub Causes : DeskState → DeskState → Status → Type 0
+Causes before now status = CauseOf before now (class_of status)

@@ -1,7 +1,9 @@
--- The classes of statuses: what a promise on any command tells them apart by.
-use Rattle.std.specs.Prelude.{◌≢◌, ⊤}
+-- The classes of statuses: at which steps of its plan a run stops that ends so. A promise on any command tells statuses
+-- apart by them alone.
+use Rattle.std.specs.Prelude.{◌≡◌, ◌++◌, ◌⊎◌, ℕ, List, [], ◌∷◌, ⊤}
 use Rattle.frag_io.specs.declared.desk.Slot.{Slot}
 use Rattle.frag_io.specs.declared.desk.Slot.TheVariants.{Profile, CertIn}
+use Rattle.run_plan.specs.Plan.{Step, begin, read, write, finish}
 use Rattle.run_plan.specs.declared.status.Status.{Status}
 use Rattle.run_plan.specs.declared.status.Status.TheVariants.{Done, Words, Memory, ReadFault, WriteFault}
 use Rattle.run_plan.specs.declared.status.Status.TheVariants.{OpenFault, TooLong, MgfRefused, ProfileRefused, DocumentRefused, DocumentRejected}
@@ -11,7 +13,7 @@ pub data Class : Type 0 where
   no_order : Class
   -- all work was done, and all that was made was written and finished
   ended : Class
-  -- what this slot was read for is refused, and nothing was written
+  -- what this slot was read for is refused
   refused : Slot → Class
   -- there was no memory
   memory : Class
@@ -37,37 +39,31 @@ class_of (WriteFault slot) = write_fault slot
 class_of (OpenFault slot) = open_fault slot
 class_of (TooLong slot) = too_long slot
 
+-- the first of these steps is that one
+abbrev pub IsNext : Step → List Step → Type 0
+IsNext step rest = (later : List Step) × (rest ≡ step ∷ later)
+
+-- the last of these steps is that one
+abbrev pub IsLast : Step → List Step → Type 0
+IsLast step done = (earlier : List Step) × (done ≡ earlier ++ step ∷ [])
+
+-- Where a run of this class stops, behind the steps that were done and before the rest. At the end of all work no step is
+-- left; what is refused was read in the last step; a fault is that of the next step; and memory may lack anywhere.
+abbrev pub StopsAt : Class → List Step → List Step → Type 0
+StopsAt no_order done rest = ⊥
+StopsAt ended done rest = rest ≡ []
+StopsAt (refused slot) done rest = IsLast (read slot) done
+StopsAt memory done rest = ⊤
+StopsAt (open_fault slot) done rest = (name : List ℕ) × IsNext (begin slot name) rest
+StopsAt (read_fault slot) done rest = IsNext (read slot) rest
+StopsAt (too_long slot) done rest = IsNext (read slot) rest
+StopsAt (write_fault slot) done rest = IsNext (write slot) rest ⊎ IsNext (finish slot) rest
+
 -- the classes of an answer to what was read
 abbrev pub IsAnswer : Class → Type 0
 IsAnswer ended = ⊤
 IsAnswer (refused slot) = ⊤
 IsAnswer class = ⊥
-
--- the classes after which nothing was written to any slot
-abbrev pub WritesNothing : Class → Type 0
-WritesNothing no_order = ⊤
-WritesNothing (refused slot) = ⊤
-WritesNothing (open_fault slot) = ⊤
-WritesNothing (read_fault Profile) = ⊤
-WritesNothing (too_long Profile) = ⊤
-WritesNothing class = ⊥
-
--- the classes of a run that may stop between its writes
-abbrev pub StopsEarly : Class → Type 0
-StopsEarly memory = ⊤
-StopsEarly (read_fault slot) = ⊤
-StopsEarly (write_fault slot) = ⊤
-StopsEarly (too_long slot) = ⊤
-StopsEarly class = ⊥
-
--- the classes of a run that came past all its begins: those of its profile come before the others
-abbrev pub IsPastBegins : Class → Type 0
-IsPastBegins ended = ⊤
-IsPastBegins (refused slot) = slot ≢ Profile
-IsPastBegins (read_fault slot) = slot ≢ Profile
-IsPastBegins (write_fault slot) = ⊤
-IsPastBegins (too_long slot) = slot ≢ Profile
-IsPastBegins class = ⊥
 
 -- the classes that a profile alone leads to
 abbrev pub IsOfProfile : Class → Type 0

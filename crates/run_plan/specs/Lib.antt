@@ -1,6 +1,6 @@
 pub mod Status
+pub mod Plan
 pub mod Class
-pub mod Begins
 pub mod Limits
 pub mod Causes
 pub mod Steps

@@ -1,35 +1,35 @@
 -- What holds of a run between its steps, and where a step ends it.
-use Rattle.std.specs.Prelude.{◌≡◌, ◌≤◌, ◌++◌, ◌⊎◌, ℕ, false, List, length, Option, Some, Result, Ok, Err, IfSome}
+use Rattle.std.specs.Prelude.{◌≡◌, ◌≤◌, ◌⊎◌, ℕ, true, false, List, Result, Ok, Err, IfSome}
 use Rattle.frag_io.specs.declared.desk.Slot.{Slot}
 use Rattle.frag_io.specs.declared.desk.DeskFault.{DeskFault}
 use Rattle.frag_io.specs.declared.desk.DeskFault.TheVariants.{Failed, OutOfMemory}
 use Rattle.frag_io.specs.DeskState.{DeskState}
-use Rattle.frag_io.specs.Slot.{IsRead}
-use Rattle.run_plan.specs.Begins.{Begin, HasBegun, text_in}
+use Rattle.frag_io.specs.Desk.{IsEmpty}
+use Rattle.frag_io.specs.Slot.{IsRead, IsWritten}
+use Rattle.run_plan.specs.Plan.{HasBegun, Step, is_finished_in, is_read_in, is_written_in, text_in}
 use Rattle.run_plan.specs.Causes.{Causes}
-use Rattle.run_plan.specs.Limits.{greatest_text_of}
+use Rattle.run_plan.specs.Limits.{IsLeft}
 use Rattle.run_plan.specs.Steps.{Steps}
 use Rattle.run_plan.specs.declared.status.Status.{Status}
 use Rattle.run_plan.specs.declared.status.Status.TheVariants.{Done, Memory, ReadFault, WriteFault, OpenFault, TooLong}
 
--- what was read of a text and what is left make it up, and no more than the limit was read
-abbrev pub IsWithinLimit : Slot → List ℕ → Option (List ℕ) → Type 0
-IsWithinLimit slot text left =
-    (read : List ℕ) × (rest : List ℕ) × (left ≡ Some rest) × (text ≡ read ++ rest)
-    × (length read ≤ greatest_text_of slot)
-
--- A run has made these begins, and has read no text past its limit; each name gives what it gave, and no count fell.
-pub record Runs (done : List Begin) (before now : DeskState) : Type 0 where
+-- A run has done these steps and no other: it has begun, read and finished exactly the slots that they begin, read and
+-- finish, of which each that is read was begun, and has written to none but where they write; each name gives what it
+-- gave, and no count fell.
+pub record HasDone (done : List Step) (before now : DeskState) : Type 0 where
   pub begun : HasBegun done now
-  pub within : (slot : Slot) → IsRead slot
-      → IfSome (text_in done before slot) (λ text. IsWithinLimit slot text (now.left slot))
+  pub finished : (slot : Slot) → now.finished slot ≡ is_finished_in done slot
+  pub opened : (slot : Slot) → is_read_in done slot ≡ true → now.begun slot ≡ true
+  pub left : (slot : Slot) → IsRead slot
+      → IfSome (text_in done before slot) (λ text. IsLeft (is_read_in done slot) slot text (now.left slot))
+  pub unwritten : (slot : Slot) → IsWritten slot → is_written_in done slot ≡ false → IsEmpty (now.written slot)
   pub gives : (name : List ℕ) → now.gives name ≡ before.gives name
   pub counts : (slot : Slot) → before.faults slot ≤ now.faults slot
 
--- A run in this order ends so.
-pub record Ends (order : List Begin) (before now : DeskState) (status : Status) : Type 0 where
+-- A run over this plan ends so.
+pub record Ends (plan : List Step) (before now : DeskState) (status : Status) : Type 0 where
   pub causes : Causes before now status
-  pub steps : Steps order before now status
+  pub steps : Steps plan before now status
 
 -- no slot was finished
 abbrev pub IsUnfinished : DeskState → Type 0
@@ -51,6 +51,11 @@ IsReadAnswer slot status = (status ≡ Memory) ⊎ (status ≡ ReadFault slot) �
 -- the statuses that writing or finishing a slot leads to
 abbrev pub IsWriteAnswer : Slot → Status → Type 0
 IsWriteAnswer slot status = (status ≡ Memory) ⊎ (status ≡ WriteFault slot)
+
+-- what a failed begin of a slot answers
+abbrev pub open_status_of : Slot → DeskFault → Status
+open_status_of slot Failed = OpenFault slot
+open_status_of slot OutOfMemory = Memory
 
 -- what a failed write or end of a slot answers
 abbrev pub write_status_of : Slot → DeskFault → Status

@@ -4,9 +4,8 @@ use Rattle.frag_io.specs.declared.desk.Slot.{Slot}
 use Rattle.frag_io.specs.declared.desk.Slot.TheVariants.{Profile, CertIn, Report, CertOut}
 use Rattle.frag_io.specs.Desk.{appended}
 use Rattle.frag_io.specs.DeskState.{DeskState}
-use Rattle.order_words.specs.Orders.{document_begin}
 use Rattle.run_plan.specs.declared.text_steps.DocumentSlot.{DocumentSlot}
-use Rattle.run_plan.specs.Begins.{Begin, name_in}
+use Rattle.run_plan.specs.Plan.{Step, begin, document_steps, name_in}
 use Rattle.run_plan.specs.Class.{Class, memory, open_fault, read_fault, write_fault, too_long}
 
 -- the slots of documents: of one that is read, and of one that is written
@@ -16,14 +15,14 @@ IsDocumentSlot CertOut = ⊤
 IsDocumentSlot slot = ⊥
 
 -- the begin of a document that the code names
-abbrev pub begin_of : DocumentSlot → Begin
-begin_of document = record { slot = document.slot; name = document.name.now }
+abbrev pub begin_of : DocumentSlot → Step
+begin_of document = begin document.slot document.name.now
 
 -- the report was begun, and of the slots of documents that of the document, where there is one
-pub record HasSlots (document : Option Begin) (now : DeskState) : Type 0 where
+pub record HasSlots (document : Option Step) (now : DeskState) : Type 0 where
   pub report : now.begun Report ≡ true
   pub documents : (slot : Slot) → IsDocumentSlot slot
-      → now.begun slot ≡ is_some (name_in (document_begin document) slot)
+      → now.begun slot ≡ is_some (name_in (document_steps document) slot)
 
 -- the classes that a text which is no profile leads to before anything is written
 abbrev pub IsTextStop : Class → Type 0
