@@ -1,5 +1,5 @@
 -- From the bytes to the table, and from the searches to the answer.
-use Rattle.std.proofs.Common.{◌≡◌, ◌∙◌, ◌≢◌, ℕ, List, Option, Some, None, Ok, Err, refl, ap, inl, inr}
+use Rattle.std.proofs.Common.{◌≡◌, ◌∙◌, ℕ, List, Option, Some, None, Ok, Err, ap, inl, inr}
 use Rattle.std.specs.Prelude.{IsUtf8}
 use Rattle.std.specs.Str.{is_utf8}
 use Rattle.std.proofs.lemmas.Bool.{cases_Bool}
@@ -12,7 +12,9 @@ use Rattle.profile.specs.Refusal.{refusal_of}
 use Rattle.profile.specs.inside.Searched.{Finds}
 use Rattle.profile.specs.Values.{profile_value_of}
 use Rattle.profile.specs.declared.fault.ProfileFault.{ProfileFault}
-use Rattle.profile.specs.declared.fault.ProfileFault.TheVariants.{NotToml, UnknownKey, BadValue, OverLimit, OutOfMemory}
+use Rattle.profile.specs.declared.fault.ProfileFault.TheVariants.{NotToml}
+use Rattle.profile.specs.declared.fault.ProfileError.{ProfileError}
+use Rattle.profile.specs.declared.fault.ProfileError.TheVariants.{Refused, OutOfMemory}
 
 pub table_of-utf8 : (bytes : List ℕ) (entries : Members) → IsUtf8 bytes → parse_document bytes ≡ Some entries → table_of bytes ≡ Some entries
 table_of-utf8 bytes entries text is = rw (is_utf8-from_IsUtf8 bytes text) is
@@ -25,12 +27,10 @@ table_of-none bytes none =
     ]
 
 -- a fault that a search told is the one that was found
-pub told : (fault : ProfileFault) (found : Option ProfileFault) → Finds (Err fault) found → fault ≢ OutOfMemory → found ≡ Some fault
-told NotToml found is other = is
-told (UnknownKey name) found is other = is
-told (BadValue name) found is other = is
-told (OverLimit name number) found is other = is
-told OutOfMemory found is other = absurd (other refl)
+pub told : (error : ProfileError) (fault : ProfileFault) (found : Option ProfileFault) → Finds (Err error) found
+    → error ≡ Refused fault → found ≡ Some fault
+told (Refused other) fault found is same = let e : other ≡ fault = cc in is ∙ ap Some e
+told OutOfMemory fault found is same = cc
 
 pub profile_of-not_toml : (bytes : List ℕ) → table_of bytes ≡ None → profile_of bytes ≡ Err NotToml
 profile_of-not_toml bytes is = ap profile_in is

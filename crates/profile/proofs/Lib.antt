@@ -7,6 +7,7 @@ pub mod ElementCast
 pub mod LimitLaws
 pub mod RuleLaws
 pub mod SettingLaws
+pub mod WalkLaws
 pub mod AnswerLaws
 pub mod Examples
 pub mod ScoreLaws

@@ -1,7 +1,7 @@
-//! Why a profile text is refused.
+//! Why no profile is read.
 ghost use Rattle.std.specs.Prelude.{◌≡◌};
 
-use std::alloc::{AllocError, AllocFailed};
+use std::alloc::AllocError;
 use std::marker::Model;
 
 /// The name of a place in a profile text: the keys and the numbers of items that lead to it, joined by points.
@@ -34,7 +34,7 @@ impl Name {
     }
 }
 
-/// Why no profile was read.
+/// Why a profile text is refused.
 #[derive(Debug, Drop)]
 pub enum ProfileFault {
     /// The bytes are not TOML.
@@ -46,16 +46,23 @@ pub enum ProfileFault {
     /// All values have their kind, and this is the first place with a number out of its range, and that number; or with
     /// more rules than are allowed, and how many.
     OverLimit(Name, i64),
+}
+
+/// Why no profile was read.
+#[derive(Debug, Drop)]
+pub enum ProfileError {
+    /// The text is refused.
+    Refused(ProfileFault),
     /// There was no memory.
     OutOfMemory,
 }
 
-impl From<AllocError> for ProfileFault {
-    ghost use Rattle.profile.specs.declared.fault.ProfileFault.TheVariants.{OutOfMemory};
+impl From<AllocError> for ProfileError {
+    ghost use Rattle.profile.specs.declared.fault.ProfileError.TheVariants.{OutOfMemory};
 
-    ghost from_gives = { λ _ fault. fault ≡ OutOfMemory };
+    ghost from_gives = { λ _ error. error ≡ OutOfMemory };
 
-    fn from(_e: AllocError) -> ProfileFault {
-        ProfileFault::OutOfMemory
+    fn from(_e: AllocError) -> ProfileError {
+        ProfileError::OutOfMemory
     }
 }

@@ -11,11 +11,9 @@ mod reading;
 mod refusal;
 mod scores;
 mod table;
-#[cfg(test)]
-mod tests;
 mod values;
 
-pub use fault::{Name, ProfileFault};
+pub use fault::{Name, ProfileError, ProfileFault};
 pub use laws::{an_empty_text_gives_the_default, what_is_read_is_in_range};
 pub use limits::Limits;
 pub use profile::{Profile, Rules, default_profile};

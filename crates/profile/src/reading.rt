@@ -1,10 +1,11 @@
 //! Reading a profile text.
-ghost use Rattle.std.specs.Prelude.{◌≡◌, ◌≢◌, IfOk, IfErr, Ok, Err, Some, None};
+ghost use Rattle.std.specs.Prelude.{◌≡◌, IfOk, IfErr, Ok, Err, Some};
 ghost use Rattle.profile.specs.ProfileOf.{profile_of, table_of};
-ghost use Rattle.profile.specs.declared.fault.ProfileFault.TheVariants.{NotToml, OutOfMemory};
+ghost use Rattle.profile.specs.declared.fault.ProfileError.TheVariants.{Refused};
+ghost use Rattle.profile.specs.declared.fault.ProfileFault.{ProfileFault};
 ghost use Rattle.toml.specs.View.{table_view};
 
-use crate::fault::ProfileFault;
+use crate::fault::{ProfileError, ProfileFault};
 use crate::places::lay_out;
 use crate::profile::Profile;
 use crate::refusal::search_all;
@@ -14,9 +15,10 @@ use toml::Table;
 
 /// The profile of a text, or the first reason to refuse it: bytes that are not TOML, then a key that is not known, then
 /// a value of the wrong kind, then a number out of its range.
-pub fn read_profile(alloc: Global, bytes: &[u8]) -> Result<Profile, ProfileFault>
+pub fn read_profile(alloc: Global, bytes: &[u8]) -> Result<Profile, ProfileError>
     ensures read { IfOk result (λ profile. profile_of bytes.now ≡ Ok profile) }
-    ensures refused { IfErr result (λ fault. fault ≢ OutOfMemory → profile_of bytes.now ≡ Err fault) }
+    ensures refused { IfErr result (λ error.
+        (fault : ProfileFault) → error ≡ Refused fault → profile_of bytes.now ≡ Err fault) }
 {
     let table = read_table(alloc, bytes)?;
     let places = lay_out(alloc, &table)?;
@@ -25,18 +27,18 @@ pub fn read_profile(alloc: Global, bytes: &[u8]) -> Result<Profile, ProfileFault
 }
 
 /// The table of a text, where it is TOML.
-fn read_table(alloc: Global, bytes: &[u8]) -> Result<Table, ProfileFault>
+fn read_table(alloc: Global, bytes: &[u8]) -> Result<Table, ProfileError>
     ensures read { IfOk result (λ table. table_of bytes.now ≡ Some (table_view table)) }
-    ensures refused { IfErr result (λ fault. fault ≢ OutOfMemory
-        → (fault ≡ NotToml) × (table_of bytes.now ≡ None)) }
+    ensures refused { IfErr result (λ error.
+        (fault : ProfileFault) → error ≡ Refused fault → profile_of bytes.now ≡ Err fault) }
 {
     match toml::table_from_slice(alloc, bytes) {
         Ok(table) => Ok(table),
         Err(error) => {
             if error.is_memory() {
-                Err(ProfileFault::OutOfMemory)
+                Err(ProfileError::OutOfMemory)
             } else {
-                Err(ProfileFault::NotToml)
+                Err(ProfileError::Refused(ProfileFault::NotToml))
             }
         }
     }

@@ -3,7 +3,7 @@ ghost use Rattle.std.specs.Prelude.{◌≡◌, IfOk};
 ghost use Rattle.profile.specs.Refusal.{refusal_of, first_fault};
 ghost use Rattle.profile.specs.inside.Searched.{Finds, fault_at, place_seen, places_seen};
 
-use crate::fault::{Name, ProfileFault};
+use crate::fault::{Name, ProfileError, ProfileFault};
 use crate::places::Place;
 use std::alloc::{AllocError, Global};
 
@@ -16,7 +16,7 @@ enum Sought {
 }
 
 /// Searches the places for an unknown key, then for a bad value, then for a number out of its range.
-pub(crate) fn search_all(alloc: Global, places: &[Place<'_>]) -> Result<(), ProfileFault>
+pub(crate) fn search_all(alloc: Global, places: &[Place<'_>]) -> Result<(), ProfileError>
     ensures { Finds result (refusal_of (places_seen places.now)) }
 {
     search(alloc, places, Sought::UnknownKeys)?;
@@ -25,7 +25,7 @@ pub(crate) fn search_all(alloc: Global, places: &[Place<'_>]) -> Result<(), Prof
 }
 
 /// Searches the places for the first fault.
-fn search(alloc: Global, places: &[Place<'_>], sought: Sought) -> Result<(), ProfileFault>
+fn search(alloc: Global, places: &[Place<'_>], sought: Sought) -> Result<(), ProfileError>
     ensures { Finds result (first_fault (fault_at sought) (places_seen places.now)) }
 {
     for place in places {
@@ -35,23 +35,23 @@ fn search(alloc: Global, places: &[Place<'_>], sought: Sought) -> Result<(), Pro
 }
 
 /// Whether a place is at fault.
-fn look_at(alloc: Global, place: &Place<'_>, sought: Sought) -> Result<(), ProfileFault>
+fn look_at(alloc: Global, place: &Place<'_>, sought: Sought) -> Result<(), ProfileError>
     ensures { Finds result (fault_at sought (place_seen place.now)) }
 {
     match sought {
         Sought::UnknownKeys => {
             if place.form.is_unknown() {
-                return Err(ProfileFault::UnknownKey(name_of(alloc, place)?));
+                return Err(ProfileError::Refused(ProfileFault::UnknownKey(name_of(alloc, place)?)));
             }
         }
         Sought::BadValues => {
             if !place.form.is_kind_of(place.value) {
-                return Err(ProfileFault::BadValue(name_of(alloc, place)?));
+                return Err(ProfileError::Refused(ProfileFault::BadValue(name_of(alloc, place)?)));
             }
         }
         Sought::OverLimits => {
             if let Some(number) = place.form.excess(place.value) {
-                return Err(ProfileFault::OverLimit(name_of(alloc, place)?, number));
+                return Err(ProfileError::Refused(ProfileFault::OverLimit(name_of(alloc, place)?, number)));
             }
         }
     }

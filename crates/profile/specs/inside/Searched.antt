@@ -14,7 +14,8 @@ use Rattle.profile.specs.declared.places.Place.{Place}
 use Rattle.profile.specs.declared.refusal.Sought.{Sought}
 use Rattle.profile.specs.declared.refusal.Sought.TheVariants.{UnknownKeys, BadValues, OverLimits}
 use Rattle.profile.specs.declared.fault.ProfileFault.{ProfileFault}
-use Rattle.profile.specs.declared.fault.ProfileFault.TheVariants.{OutOfMemory}
+use Rattle.profile.specs.declared.fault.ProfileError.{ProfileError}
+use Rattle.profile.specs.declared.fault.ProfileError.TheVariants.{Refused, OutOfMemory}
 use Rattle.profile.specs.Places as spec
 use Rattle.profile.specs.Refusal.{unknown_at, bad_at, over_at}
 
@@ -38,7 +39,7 @@ fault_at BadValues = bad_at
 fault_at OverLimits = over_at
 
 -- a search comes to this end; want of memory says nothing
-abbrev pub Finds : Result (Unit {0}) ProfileFault → Option ProfileFault → Type 0
+abbrev pub Finds : Result (Unit {0}) ProfileError → Option ProfileFault → Type 0
 Finds (Ok done) found = found ≡ None
+Finds (Err (Refused fault)) found = found ≡ Some fault
 Finds (Err OutOfMemory) found = ⊤
-Finds (Err fault) found = found ≡ Some fault
