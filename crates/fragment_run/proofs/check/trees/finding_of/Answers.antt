@@ -4,7 +4,8 @@ use Rattle.certificate_checker.specs.declared.entry_place.EntryPlace.{EntryPlace
 use Rattle.certificate_checker.specs.declared.entry_place.EntryVerdict.{EntryVerdict}
 use Rattle.certificate_checker.specs.declared.entry_place.EntryVerdict.TheVariants.{Wrong}
 use Rattle.element_table.specs.FormulaList.{FormulaListValue}
-use Rattle.loss_graph.specs.LossGraph.{LossGraphValue, greatest_graph}
+use Rattle.colour_graph.specs.Graph.{greatest_graph}
+use Rattle.loss_graph.specs.LossGraph.{LossGraphValue}
 use Rattle.tree_certificate.specs.Value.{TreeValue}
 use Rattle.tree_certificate.specs.declared.entry.Outcome.{Outcome}
 use Rattle.tree_certificate.specs.declared.entry.Outcome.TheVariants.{Tree}
