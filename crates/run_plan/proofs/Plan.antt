@@ -28,7 +28,7 @@ not_true : false ≡ true → ⊥
 not_true is = cc
 
 pub not_both : (test : Bool) → test ≡ false → test ≡ true → ⊥
-not_both test no yes = not_true (sym no ∙ yes)
+not_both test fails passes = not_true (sym fails ∙ passes)
 
 pub slot_is : (one other : Slot) → is_same_slot one other ≡ true → one ≡ other
 slot_is one other is = elim (same_slot one other) [

@@ -9,42 +9,45 @@ use Rattle.frag_io.specs.Desk.{IsCounted}
 use Rattle.profile.specs.Profile.{ProfileValue}
 use Rattle.profile.specs.ProfileOf.{profile_of}
 use Rattle.profile.specs.declared.fault.ProfileFault.{ProfileFault}
-use Rattle.profile.specs.declared.fault.ProfileFault.TheVariants.{OutOfMemory}
-use Rattle.profile.specs.declared.fault.ProfileFault.TheVariants as P
-use Rattle.run_plan.specs.Begins.{Begin, name_in, profile_begin}
+use Rattle.profile.specs.declared.fault.ProfileError.{ProfileError}
+use Rattle.profile.specs.declared.fault.ProfileError.TheVariants as P
+use Rattle.run_plan.specs.Plan.{Step, is_next, is_read_of, name_in, profile_steps, read}
 use Rattle.run_plan.specs.Causes.{CauseOf}
-use Rattle.run_plan.specs.Class.{Class, class_of, ended, refused, memory, open_fault, read_fault, too_long, IsAnswer, IsOfProfile}
+use Rattle.run_plan.specs.Class.{Class, class_of, ended, refused, memory, open_fault, read_fault, too_long, IsAnswer, IsNext, IsOfProfile, StopsAt}
 use Rattle.run_plan.specs.Limits.{FitsLimit, greatest_text_of}
 use Rattle.run_plan.specs.ProfilePromise.{OnlyProfile, ProfilePromise, profile_outcome}
-use Rattle.run_plan.specs.ProfileTaken.{IsTaken, refusal_of}
+use Rattle.run_plan.specs.ProfileTaken.{IsTaken, status_of_error}
 use Rattle.run_plan.specs.Running.{Ends, IsOpenAnswer, IsReadAnswer}
 use Rattle.run_plan.specs.declared.status.Status.{Status}
 use Rattle.run_plan.specs.declared.status.Status.TheVariants.{Memory, OpenFault, ProfileRefused, ReadFault, TooLong}
-use Rattle.run_plan.proofs.Running.{name_in-earlier, some_in}
+use Rattle.run_plan.proofs.Plan.{is_same_slot-own, name_in-earlier, some_in}
 
 -- a status that says that a profile is refused names the fault
 pub refused_profile : (status : Status) → class_of status ≡ refused Profile → (fault : ProfileFault) × (status ≡ ProfileRefused fault)
 refused_profile (ProfileRefused fault) is = (fault, refl)
 refused_profile status is = cc
 
--- what an order has under a name is longer than its limit where it is called too long
-pub long_text : (order : List Begin) (before now : DeskState) (status : Status) (slot : Slot) (name text : List ℕ) → Ends order before now status
-    → class_of status ≡ too_long slot → name_in order slot ≡ Some name → before.gives name ≡ Some text → greatest_text_of slot < length text
-long_text order before now status slot name text ends long named told =
+-- what a plan has under a name is longer than its limit where it is called too long
+pub long_text : (plan : List Step) (before now : DeskState) (status : Status) (slot : Slot) (name text : List ℕ) → Ends plan before now status
+    → class_of status ≡ too_long slot → name_in plan slot ≡ Some name → before.gives name ≡ Some text → greatest_text_of slot < length text
+long_text plan before now status slot name text ends long named told =
     let steps = ends.steps in
-    let cause : CauseOf before now (too_long slot) = subst (CauseOf before now) long ends.causes.cause in
+    let cause : CauseOf before now (too_long slot) = subst (CauseOf before now) long ends.causes in
+    let stop : IsNext (read slot) steps.rest = subst (λ class. StopsAt class steps.done steps.rest) long steps.stop in
     let found = some_in (name_in steps.done slot) (sym (steps.begun.slots slot) ∙ cause.1) in
-    let whole : name_in order slot ≡ Some found.0 = ap (λ (begins : List Begin). name_in begins slot) steps.parts ∙ name_in-earlier steps.done steps.rest slot found.0 found.1 in
+    let whole : name_in plan slot ≡ Some found.0 =
+        ap (λ (all : List Step). name_in all slot) steps.parts ∙ name_in-earlier steps.done steps.rest slot found.0 found.1 in
     let same : found.0 ≡ name = one_name (sym whole ∙ named) in
-    let fits = MatchOption-at_some _ (λ text. FitsLimit slot text (now.left slot) (class_of status)) text
-    (ap (option_and_then before.gives) (found.1 ∙ ap Some same) ∙ told) (steps.limits slot cause.0) in
-    longer text fits.0 fits.1 (greatest_text_of slot) fits.3 (fits.4.0 long)
+    let fit = MatchOption-at_some _ (λ text. FitsLimit slot text (now.left slot) (class_of status)) text
+    (ap (option_and_then before.gives) (found.1 ∙ ap Some same) ∙ told)
+    (steps.reached slot cause.0 (ap (is_next (is_read_of slot)) stop.1 ∙ is_same_slot-own slot)) in
+    longer text fit.0 fit.1 (greatest_text_of slot) fit.3 (fit.4.0 long)
   where
     one_name : {one other : List ℕ} → Some one ≡ Some other → one ≡ other
     one_name same = cc
 
     longer : (text read left : List ℕ) (limit : ℕ) → text ≡ read ++ left → limit < length read → limit < length text
-    longer text read left limit parts more = omega (arith, ap length parts ∙ length-append read left, more)
+    longer text front left limit parts more = omega (arith, ap length parts ∙ length-append front left, more)
 
 same_fault : (outcome : Result ProfileValue ProfileFault) (one other : ProfileFault) → outcome ≡ Err one → outcome ≡ Err other → one ≡ other
 same_fault outcome one other is also = cc
@@ -59,11 +62,11 @@ named_outcome gives None text fault told barred = cc
 named_outcome gives (Some name) text fault told barred = ap (option_map profile_of) told ∙ ap Some barred
 
 -- the promise where the profile that is named stopped the run
-pub stopped_promise : (name : List ℕ) (rest : List Begin) (before now : DeskState) (status : Status)
-    → Ends (profile_begin (Some name) ++ rest) before now status
+pub stopped_promise : (name : List ℕ) (rest : List Step) (before now : DeskState) (status : Status)
+    → Ends (profile_steps (Some name) ++ rest) before now status
     → OnlyProfile now
     → (class_of status ≡ memory) ⊎ IsOfProfile (class_of status)
-    → ((fault : ProfileFault) → status ≡ ProfileRefused fault → (fault ≢ OutOfMemory) × IfSome (before.gives name) (λ text. profile_of text ≡ Err fault))
+    → ((fault : ProfileFault) → status ≡ ProfileRefused fault → IfSome (before.gives name) (λ text. profile_of text ≡ Err fault))
     → ProfilePromise (Some name) before now status
 stopped_promise name rest before now status ends only own refusal = record {
   refusal = refusal;
@@ -81,13 +84,13 @@ stopped_promise name rest before now status ends only own refusal = record {
     told_as text fault told short is none (refused Profile) class of =
         let known = refused_profile status class in
         inr (known.1 ∙ ap ProfileRefused (same_fault (profile_of text) known.0 fault
-        (MatchOption-at_some _ (λ text. profile_of text ≡ Err known.0) text told (refusal known.0 known.1).1) is))
+        (MatchOption-at_some _ (λ text. profile_of text ≡ Err known.0) text told (refusal known.0 known.1)) is))
     told_as text fault told short is none (open_fault Profile) class of =
-        let cause : CauseOf before now (open_fault Profile) = subst (CauseOf before now) class ends.causes.cause in absurd (none cause.0)
+        let cause : CauseOf before now (open_fault Profile) = subst (CauseOf before now) class ends.causes in absurd (none cause.0)
     told_as text fault told short is none (read_fault Profile) class of =
-        let cause : CauseOf before now (read_fault Profile) = subst (CauseOf before now) class ends.causes.cause in absurd (none cause.1)
+        let cause : CauseOf before now (read_fault Profile) = subst (CauseOf before now) class ends.causes in absurd (none cause.1)
     told_as text fault told short is none (too_long Profile) class of =
-        absurd (not_both_ways _ _ short (long_text (profile_begin (Some name) ++ rest) before now status Profile name text ends class refl told))
+        absurd (not_both_ways _ _ short (long_text (profile_steps (Some name) ++ rest) before now status Profile name text ends class refl told))
       where
         not_both_ways : (many limit : ℕ) → many ≤ limit → limit < many → ⊥
         not_both_ways many limit few more = omega arith
@@ -131,57 +134,25 @@ own_read status (inr (inr is)) = (inr (subst (λ s. IsOfProfile (class_of s)) (s
     clash : (fault : ProfileFault) → TooLong Profile ≡ ProfileRefused fault → ⊥
     clash fault told = cc
 
-pub own_refused : (fault : ProfileFault) → (class_of (refusal_of fault) ≡ memory) ⊎ IsOfProfile (class_of (refusal_of fault))
-own_refused P.OutOfMemory = inl refl
-own_refused P.NotToml = inr tt
-own_refused (P.UnknownKey key) = inr tt
-own_refused (P.BadValue key) = inr tt
-own_refused (P.OverLimit key number) = inr tt
+pub own_error : (error : ProfileError) → (class_of (status_of_error error) ≡ memory) ⊎ IsOfProfile (class_of (status_of_error error))
+own_error P.OutOfMemory = inl refl
+own_error (P.Refused fault) = inr tt
 
 -- a refusal is for the fault that was found
-same_refusal : (fault other : ProfileFault) → refusal_of fault ≡ ProfileRefused other → (fault ≡ other) × (other ≢ P.OutOfMemory)
-same_refusal P.OutOfMemory other told = cc
-same_refusal P.NotToml other told = (inside told, λ is. never told is)
-  where
-    inside : ProfileRefused P.NotToml ≡ ProfileRefused other → P.NotToml ≡ other
-    inside told = cc
-
-    never : ProfileRefused P.NotToml ≡ ProfileRefused other → other ≡ P.OutOfMemory → ⊥
-    never told is = cc
-same_refusal (P.UnknownKey key) other told = (inside told, λ is. never told is)
-  where
-    inside : ProfileRefused (P.UnknownKey key) ≡ ProfileRefused other → P.UnknownKey key ≡ other
-    inside told = cc
-
-    never : ProfileRefused (P.UnknownKey key) ≡ ProfileRefused other → other ≡ P.OutOfMemory → ⊥
-    never told is = cc
-same_refusal (P.BadValue key) other told = (inside told, λ is. never told is)
-  where
-    inside : ProfileRefused (P.BadValue key) ≡ ProfileRefused other → P.BadValue key ≡ other
-    inside told = cc
-
-    never : ProfileRefused (P.BadValue key) ≡ ProfileRefused other → other ≡ P.OutOfMemory → ⊥
-    never told is = cc
-same_refusal (P.OverLimit key number) other told = (inside told, λ is. never told is)
-  where
-    inside : ProfileRefused (P.OverLimit key number) ≡ ProfileRefused other → P.OverLimit key number ≡ other
-    inside told = cc
-
-    never : ProfileRefused (P.OverLimit key number) ≡ ProfileRefused other → other ≡ P.OutOfMemory → ⊥
-    never told is = cc
+same_refusal : (error : ProfileError) (fault : ProfileFault) → status_of_error error ≡ ProfileRefused fault → error ≡ P.Refused fault
+same_refusal P.OutOfMemory fault told = cc
+same_refusal (P.Refused own) fault told = cc
 
 -- the promise where the text of the profile was read and is refused, or there was no memory for it
-pub refusal_promise : (name : List ℕ) (before now : DeskState) (fault : ProfileFault) (bytes : List ℕ)
-    → Ends (profile_begin (Some name) ++ []) before now (refusal_of fault)
+pub error_promise : (name : List ℕ) (before now : DeskState) (error : ProfileError) (bytes : List ℕ)
+    → Ends (profile_steps (Some name) ++ []) before now (status_of_error error)
     → OnlyProfile now
     → IfSome (before.gives name) (λ text. text ≡ bytes)
-    → (fault ≢ P.OutOfMemory → profile_of bytes ≡ Err fault)
-    → ProfilePromise (Some name) before now (refusal_of fault)
-refusal_promise name before now fault bytes ends only text barred =
-    stopped_promise name [] before now (refusal_of fault) ends only (own_refused fault)
-    (λ other told.
-    let same = same_refusal fault other told in
-    (same.1, IfSome_then (before.gives name) text (λ t is. ap profile_of is ∙ barred (λ want. same.1 (sym same.0 ∙ want)) ∙ ap Err same.0)))
+    → ((fault : ProfileFault) → error ≡ P.Refused fault → profile_of bytes ≡ Err fault)
+    → ProfilePromise (Some name) before now (status_of_error error)
+error_promise name before now error bytes ends only text barred =
+    stopped_promise name [] before now (status_of_error error) ends only (own_error error)
+    (λ fault told. IfSome_then (before.gives name) text (λ t is. ap profile_of is ∙ barred fault (same_refusal error fault told)))
 
 -- a profile that is not refused is not answered by a refusal
 pub accepted_profile : (name : List ℕ) (before now : DeskState) (status : Status) (profile : ProfileValue)
@@ -201,7 +172,7 @@ accepted_profile name before now status profile promise own is answer = elim own
 
     by_class : (class : Class) → class_of status ≡ class → IsOfProfile class → IsAnswer class → ⊥
     by_class (refused Profile) told of answer =
-        let known = refused_profile status told in by_text known.0 (before.gives name) is (promise.refusal known.0 known.1).1
+        let known = refused_profile status told in by_text known.0 (before.gives name) is (promise.refusal known.0 known.1)
     by_class ended told of answer = of
     by_class (refused slot) told of answer = of
     by_class class told of answer = answer

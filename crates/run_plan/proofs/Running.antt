@@ -1,7 +1,7 @@
 -- `HasDone` and `Ends`: what the steps of a run keep, and how each of them ends it.
-use Rattle.std.proofs.Common.{◌≡◌, ◌≢◌, ◌≤◌, ◌<◌, ◌++◌, ◌⊎◌, inl, inr, ℕ, Bool, true, false, List, [], ◌∷◌, length, Option, Some, None, Result, Err, IfSome, sym, ◌∙◌, ap, subst, refl, arith, append-nil, length-append}
+use Rattle.std.proofs.Common.{◌≡◌, ◌≢◌, ◌≤◌, ◌<◌, ◌++◌, ◌⊎◌, inl, inr, ℕ, Bool, true, false, List, [], ◌∷◌, length, Option, Some, None, Result, Ok, Err, IfSome, sym, ◌∙◌, ap, subst, refl, arith, append-nil, length-append}
 use Rattle.std.proofs.Math.Nat.{lt_of_not-le}
-use Rattle.std.specs.Prelude.{Vec, is_some, option_and_then, ◌↔◌}
+use Rattle.std.specs.Prelude.{Vec, is_some, option_and_then, ◌↔◌, IfOk}
 use Rattle.std.specs.declared.alloc.Global.{Global}
 use Rattle.std.proofs.lemmas.Option.{IfSome_then, MatchOption-at_some}
 use Rattle.frag_io.specs.declared.desk.Slot.{Slot}
@@ -15,13 +15,14 @@ use Rattle.frag_io.specs.Desk.{IsCounted, IsEmpty, IsNamed, Keeps}
 use Rattle.frag_io.specs.Slot.{Gains, IsRead, IsWritten, Same, is_read}
 use Rattle.frag_io.specs.Whole.{ReadsWhole}
 use Rattle.profile.specs.declared.fault.ProfileFault.{ProfileFault}
-use Rattle.profile.specs.declared.fault.ProfileFault.TheVariants as P
-use Rattle.run_plan.specs.ProfileTaken.{refusal_of}
+use Rattle.profile.specs.declared.fault.ProfileError.{ProfileError}
+use Rattle.profile.specs.declared.fault.ProfileError.TheVariants as P
+use Rattle.run_plan.specs.ProfileTaken.{status_of_error}
 use Rattle.run_plan.specs.Plan.{HasBegun, Step, begin, read, write, finish, is_finish_of, is_finished_in, is_next, is_read_in, is_read_of, is_same_slot, is_write_to, is_written_in, name_in, text_in}
 use Rattle.run_plan.specs.Causes.{CauseOf, IsUnwritten}
 use Rattle.run_plan.specs.Class.{Class, class_of, no_order, ended, refused, memory, open_fault, read_fault, write_fault, too_long, IsAnswer, IsLast, StopsAt}
 use Rattle.run_plan.specs.Limits.{AreWithinLimits, FitsLimit, IsLeft, greatest_text_of}
-use Rattle.run_plan.specs.Running.{Ends, HasDone, open_status_of, write_status_of}
+use Rattle.run_plan.specs.Running.{Ends, HasDone, open_status_of, read_status_of, write_status_of}
 use Rattle.run_plan.specs.declared.status.Status.{Status}
 use Rattle.run_plan.specs.declared.status.Status.TheVariants.{Memory, OpenFault, ProfileRefused, ReadFault, WriteFault, TooLong}
 use Rattle.run_plan.proofs.Plan.{any_new, any_same, is_same_slot-own, name_in-earlier, name_in-other, name_in-own, name_in-same, none_in, not_both, same_slot, slot_differs, slot_is, some_in, text_on}
@@ -35,7 +36,7 @@ no_read : false ≡ true → ⊥
 no_read is = cc
 
 both_kinds : (slot : Slot) → IsRead slot → IsWritten slot → ⊥
-both_kinds slot read written = no_read (sym written ∙ read)
+both_kinds slot reads writes = no_read (sym writes ∙ reads)
 
 past : (many limit : ℕ) → many ≤ limit → limit < many → ⊥
 past many limit few more = omega arith
@@ -50,6 +51,18 @@ fits false slot text left class is other =
   where
     none : (limit : ℕ) → limit < 0 → ⊥
     none limit more = omega arith
+
+-- a call that leaves the bytes of its own slot leaves those of each
+pub same_bytes : (old now : DeskState) (slot : Slot) → now.written slot ≡ old.written slot → Keeps slot old now
+    → (other : Slot) → now.written other ≡ old.written other
+same_bytes old now slot unchanged keeps other = elim (same_slot slot other) [
+  | inl own ↦ subst (λ s. now.written s ≡ old.written s) own unchanged
+  | inr differs ↦ keeps.others_written other differs.1
+]
+
+-- counts of a later part of a run are counts of all of it
+pub counted_since : (slot : Slot) (before old now : DeskState) → before.faults slot ≤ old.faults slot → IsCounted slot old now → IsCounted slot before now
+counted_since slot before old now rose counted = omega (arith, rose, counted)
 
 -- the same slots begun under the same names, behind a step that begins none
 pub begun_on : (done : List Step) (step : Step) (old now : DeskState) → ((slot : Slot) → name_in (step ∷ []) slot ≡ None)
@@ -67,6 +80,11 @@ begun_still done old now begun same names = record {
   names = λ slot. IfSome_then (name_in done slot) (begun.names slot) (λ n told. subst (λ t. IfSome t (λ x. x ≡ n)) (sym (names slot)) told);
 }
 
+-- a slot that was not begun was not finished
+pub unfinished : (begun finished : Bool) → (finished ≡ true → begun ≡ true) → begun ≡ false → finished ≡ false
+unfinished begun true opened not = absurd (not_both begun not (opened refl))
+unfinished begun false opened not = refl
+
 -- before a run nothing was done
 pub done_nothing : (now : DeskState) → ((slot : Slot) → now.begun slot ≡ false) → ((slot : Slot) → now.finished slot ≡ false)
     → IsUnwritten now → HasDone [] now now
@@ -74,7 +92,7 @@ done_nothing now fresh unfinished unwritten = record {
   begun = record { slots = fresh; names = λ slot. tt };
   finished = unfinished;
   opened = λ slot is. absurd (no_read is);
-  left = λ slot read. tt;
+  left = λ slot is_text. tt;
   unwritten = λ slot written other. unwritten slot written;
   gives = λ name. refl;
   counts = λ slot. omega arith;
@@ -139,9 +157,9 @@ done_begin done before old now slot name did fresh gains same named left empty k
     ]
 
     own_text : IsRead slot → IfSome (before.gives name) (λ text. IsLeft (is_read_in (done ++ begin slot name ∷ []) slot) slot text (now.left slot))
-    own_text read = at_some (before.gives name) (λ text. IsLeft (is_read_in (done ++ begin slot name ∷ []) slot) slot text (now.left slot))
+    own_text is_text = at_some (before.gives name) (λ text. IsLeft (is_read_in (done ++ begin slot name ∷ []) slot) slot text (now.left slot))
         (λ text told. subst (λ test. IsLeft test slot text (now.left slot))
-        (sym (same_reads slot ∙ unread done before old slot did fresh)) (left read ∙ did.gives name ∙ told))
+        (sym (same_reads slot ∙ unread done before old slot did fresh)) (left is_text ∙ did.gives name ∙ told))
 
     texts : (other : Slot) → IsRead other
         → IfSome (text_in (done ++ begin slot name ∷ []) before other) (λ text. IsLeft (is_read_in (done ++ begin slot name ∷ []) other) other text (now.left other))
@@ -161,10 +179,10 @@ done_begin done before old now slot name did fresh gains same named left empty k
 pub done_read : (done : List Step) (before old now : DeskState) (slot : Slot) (result : Result (Vec ℕ Global) ReadWhole) (bytes : Vec ℕ Global)
     → HasDone done before old → IsRead slot → is_read_in done slot ≡ false → old.begun slot ≡ true
     → Same old.begun now.begun → Same old.finished now.finished → Same old.names now.names → Keeps slot old now
-    → IfSome (old.left slot) (λ text. (text ≡ bytes.items) × (now.left slot ≡ Some []))
+    → IfSome (old.left slot) (ReadsWhole (greatest_text_of slot) (now.left slot) result) → result ≡ Ok bytes
     → length bytes.items ≤ greatest_text_of slot
     → HasDone (done ++ read slot ∷ []) before now
-done_read done before old now slot result bytes did is_read_slot first begun same_begun same_finished names keeps whole short = record {
+done_read done before old now slot result bytes did is_read_slot first begun same_begun same_finished names keeps reads is_ok short = record {
   begun = begun_on done (read slot) old now (λ other. refl) did.begun same_begun names;
   finished = λ other. same_finished other ∙ did.finished other ∙ sym (any_same (is_finish_of other) done (read slot) refl);
   opened = λ other is. elim (same_slot slot other) [
@@ -185,7 +203,10 @@ done_read done before old now slot result bytes did is_read_slot first begun sam
 }
   where
     told : (text : List ℕ) → old.left slot ≡ Some text → (text ≡ bytes.items) × (now.left slot ≡ Some [])
-    told text is = MatchOption-at_some _ (λ text. (text ≡ bytes.items) × (now.left slot ≡ Some [])) text is whole
+    told text is =
+        let all = MatchOption-at_some _ (ReadsWhole (greatest_text_of slot) (now.left slot) result) text is reads in
+        let whole = subst (λ r. IfOk r (λ items. (items.items ≡ all.read) × (all.rest ≡ []))) is_ok all.whole in
+        (all.parts ∙ ap (λ (rest : List ℕ). all.read ++ rest) whole.1 ∙ append-nil all.read ∙ sym whole.0, all.rest_is_left ∙ ap Some whole.1)
 
     own_text : IfSome (text_in (done ++ read slot ∷ []) before slot) (λ text. IsLeft (is_read_in (done ++ read slot ∷ []) slot) slot text (now.left slot))
     own_text = text_on done (read slot) before slot (λ text. IsLeft (is_read_in (done ++ read slot ∷ []) slot) slot text (now.left slot)) refl
@@ -249,14 +270,6 @@ done_finish done before old now slot did written same_begun gains names unchange
     (λ other other_written none. subst IsEmpty (sym (same_bytes old now slot unchanged keeps other))
     (did.unwritten other other_written (sym (any_same (is_write_to other) done (finish slot) refl) ∙ none)))
 
--- a call that leaves the bytes of its own slot leaves those of each
-pub same_bytes : (old now : DeskState) (slot : Slot) → now.written slot ≡ old.written slot → Keeps slot old now
-    → (other : Slot) → now.written other ≡ old.written other
-same_bytes old now slot unchanged keeps other = elim (same_slot slot other) [
-  | inl own ↦ subst (λ s. now.written s ≡ old.written s) own unchanged
-  | inr differs ↦ keeps.others_written other differs.1
-]
-
 -- texts within their limits are answered where no fault is counted and memory is there
 answers_of : (done rest : List Step) (before now : DeskState) (class : Class) → StopsAt class done rest → HasBegun done now
     → ((slot : Slot) → IsRead slot → is_next (is_read_of slot) rest ≡ true
@@ -279,7 +292,7 @@ answers_of done rest before now (too_long slot) stop begun reached cause short n
     absurd (longer _ _ _ (greatest_text_of slot) fit.3 told.2 (fit.4.0 refl))
   where
     longer : (text read left : List ℕ) (limit : ℕ) → text ≡ read ++ left → length text ≤ limit → limit < length read → ⊥
-    longer text read left limit parts few more = omega (arith, ap length parts ∙ length-append read left, few, more)
+    longer text front left limit parts few more = omega (arith, ap length parts ∙ length-append front left, few, more)
 
 -- what a run over its plan owes at its end
 pub ends_of : (done rest : List Step) (before now : DeskState) (status : Status)
@@ -313,8 +326,8 @@ pub done_ends : (done rest : List Step) (before now : DeskState) (status : Statu
     → ((slot : Slot) → class_of status ≡ too_long slot → ⊥)
     → Ends (done ++ rest) before now status
 done_ends done rest before now status did stop cause other =
-    ends_of done rest before now status stop cause did.begun did.finished (λ slot read none. did.left slot read)
-    (λ slot read next. IfSome_then (text_in done before slot) (did.left slot read)
+    ends_of done rest before now status stop cause did.begun did.finished (λ slot is_text none. did.left slot is_text)
+    (λ slot is_text next. IfSome_then (text_in done before slot) (did.left slot is_text)
     (λ text is. fits (is_read_in done slot) slot text (now.left slot) (class_of status) is (other slot)))
     (λ slot written none none_next. did.unwritten slot written none)
 
@@ -365,14 +378,10 @@ pub unbegun_ends : (done later : List Step) (before old now : DeskState) (slot :
     → Ends (done ++ begin slot name ∷ later) before now (open_status_of slot fault)
 unbegun_ends done later before old now slot name Fault.Failed did fresh same_begun same_finished empty keeps counted =
     done_ends done (begin slot name ∷ later) before now (OpenFault slot)
-    (done_still done before old now slot did fresh same_begun same_finished empty keeps) (name, later, refl)
+    (done_still done before old now slot did fresh same_begun same_finished empty keeps) (name, (later, refl))
     (counted_since slot before old now (did.counts slot) (counted refl), same_begun slot ∙ fresh) (λ other told. cc)
 unbegun_ends done later before old now slot name Fault.OutOfMemory did fresh same_begun same_finished empty keeps counted =
     memory_ends done (begin slot name ∷ later) before now (done_still done before old now slot did fresh same_begun same_finished empty keeps)
-
--- counts of a later part of a run are counts of all of it
-pub counted_since : (slot : Slot) (before old now : DeskState) → before.faults slot ≤ old.faults slot → IsCounted slot old now → IsCounted slot before now
-counted_since slot before old now rose counted = omega (arith, rose, counted)
 
 -- the status of a slot that was not read whole
 pub unread_ends : (done later : List Step) (before old now : DeskState) (slot : Slot) (status : Status) (result : Result (Vec ℕ Global) ReadWhole)
@@ -397,6 +406,36 @@ unread_ends done later before old now slot status result did is_read_slot first 
         let left : old.left slot ≡ Some text = subst (λ test. IsLeft test slot text (old.left slot)) first is in
         let all = MatchOption-at_some _ (ReadsWhole (greatest_text_of slot) (now.left slot) result) text left reads in
         (all.read, all.rest, all.rest_is_left, all.parts, ((λ told. all.too_long.0 (long.0 told)), λ more. long.1 (all.too_long.1 more))))
+
+-- a slot whose reading failed, was too long, or lacked memory
+pub error_of_read_ends : (done later : List Step) (before old now : DeskState) (slot : Slot) (fault : ReadWhole) (result : Result (Vec ℕ Global) ReadWhole)
+    → HasDone done before old → IsRead slot → is_read_in done slot ≡ false → old.begun slot ≡ true
+    → Same old.begun now.begun → Same old.finished now.finished → Same old.names now.names → Keeps slot old now
+    → IfSome (old.left slot) (ReadsWhole (greatest_text_of slot) (now.left slot) result)
+    → result ≡ Err fault → (result ≡ Err Read.Failed → IsCounted slot old now)
+    → Ends (done ++ read slot ∷ later) before now (read_status_of slot fault)
+error_of_read_ends done later before old now slot Read.Failed result did read_slot first begun same_begun same_finished names keeps reads is counted =
+    unread_ends done later before old now slot (ReadFault slot) result did read_slot first same_begun same_finished names keeps reads
+    ((λ told. cc), λ long. absurd (other (sym is ∙ long))) (later, refl)
+    (read_slot, counted_since slot before old now (did.counts slot) (counted is), same_begun slot ∙ begun)
+  where
+    the_error : ReadWhole → Result (Vec ℕ Global) ReadWhole
+    the_error fault = Err fault
+
+    other : the_error Read.Failed ≡ the_error Read.TooLong → ⊥
+    other told = cc
+error_of_read_ends done later before old now slot Read.TooLong result did read_slot first begun same_begun same_finished names keeps reads is counted =
+    unread_ends done later before old now slot (TooLong slot) result did read_slot first same_begun same_finished names keeps reads
+    ((λ told. is), λ long. refl) (later, refl) (read_slot, same_begun slot ∙ begun)
+error_of_read_ends done later before old now slot Read.OutOfMemory result did read_slot first begun same_begun same_finished names keeps reads is counted =
+    unread_ends done later before old now slot Memory result did read_slot first same_begun same_finished names keeps reads
+    ((λ told. cc), λ long. absurd (other (sym is ∙ long))) tt tt
+  where
+    the_error : ReadWhole → Result (Vec ℕ Global) ReadWhole
+    the_error fault = Err fault
+
+    other : the_error Read.OutOfMemory ≡ the_error Read.TooLong → ⊥
+    other told = cc
 
 -- a write to a slot that failed, or there was no memory for it
 pub failed_write_ends : (done later : List Step) (before old now : DeskState) (slot : Slot) (fault : DeskFault)
@@ -478,13 +517,9 @@ refused_profile : (rest : List Step) (before now : DeskState) (name : List ℕ) 
 refused_profile rest before now name fault did begun =
     refused_ends (begin Profile name ∷ []) rest before now Profile (ProfileRefused fault) refl refl begun did
 
--- a profile that was not read for this fault
-pub refusal_ends : (rest : List Step) (before now : DeskState) (name : List ℕ) (fault : ProfileFault)
+-- a profile that was not read for this error
+pub error_ends : (rest : List Step) (before now : DeskState) (name : List ℕ) (error : ProfileError)
     → HasDone (begin Profile name ∷ read Profile ∷ []) before now → now.begun Profile ≡ true
-    → Ends ((begin Profile name ∷ read Profile ∷ []) ++ rest) before now (refusal_of fault)
-refusal_ends rest before now name P.OutOfMemory did begun = memory_ends (begin Profile name ∷ read Profile ∷ []) rest before now did
-refusal_ends rest before now name P.NotToml did begun = refused_profile rest before now name P.NotToml did begun
-refusal_ends rest before now name (P.UnknownKey key) did begun = refused_profile rest before now name (P.UnknownKey key) did begun
-refusal_ends rest before now name (P.BadValue key) did begun = refused_profile rest before now name (P.BadValue key) did begun
-refusal_ends rest before now name (P.OverLimit key number) did begun =
-    refused_profile rest before now name (P.OverLimit key number) did begun
+    → Ends ((begin Profile name ∷ read Profile ∷ []) ++ rest) before now (status_of_error error)
+error_ends rest before now name P.OutOfMemory did begun = memory_ends (begin Profile name ∷ read Profile ∷ []) rest before now did
+error_ends rest before now name (P.Refused fault) did begun = refused_profile rest before now name fault did begun

@@ -7,7 +7,7 @@ use Rattle.frag_io.specs.Desk.{IsEmpty, appended}
 use Rattle.profile.specs.Profile.{ProfileValue}
 use Rattle.profile.specs.declared.fault.ProfileFault.{ProfileFault}
 use Rattle.run_plan.specs.Causes.{IsUnwritten}
-use Rattle.run_plan.specs.Class.{Class, class_of, no_order, ended, refused, memory, open_fault, read_fault, write_fault, too_long, IsAnswer, IsOfProfile, StopsEarly}
+use Rattle.run_plan.specs.Class.{Class, class_of, no_order, ended, refused, memory, open_fault, read_fault, write_fault, too_long, IsAnswer, IsOfProfile}
 use Rattle.run_plan.specs.Leaves.{Meaning}
 use Rattle.run_plan.specs.Limits.{greatest_text_of}
 use Rattle.run_plan.specs.ProfilePromise.{profile_outcome}
@@ -95,15 +95,10 @@ partly_owes meaning text now status stop short part = record {
 pub answered_owes : (meaning : Meaning) (text : List ℕ) (now : DeskState) (status : Status) → IsAnswer (class_of status)
     → meaning.right status now.written → OwesText meaning text now status
 answered_owes meaning text now status is right = record {
-  leaves = record { answer = λ told. right; early = λ stops. absurd (late (class_of status) is stops) };
+  leaves = record { answer = λ told. right; early = λ other. absurd (other is) };
   formed_first = formed (class_of status) is;
 }
   where
-    late : (class : Class) → IsAnswer class → StopsEarly class → ⊥
-    late ended is stops = stops
-    late (refused slot) is stops = stops
-    late class is stops = is
-
     formed : (class : Class) → IsAnswer class → IsFormedFirst meaning text now class
     formed ended is = tt
     formed (refused slot) is = tt

@@ -3,6 +3,8 @@ use Rattle.std.specs.Prelude.{◌≡◌, ◌≤◌, ◌⊎◌, ℕ, true, false,
 use Rattle.frag_io.specs.declared.desk.Slot.{Slot}
 use Rattle.frag_io.specs.declared.desk.DeskFault.{DeskFault}
 use Rattle.frag_io.specs.declared.desk.DeskFault.TheVariants.{Failed, OutOfMemory}
+use Rattle.frag_io.specs.declared.whole.ReadWhole.{ReadWhole}
+use Rattle.frag_io.specs.declared.whole.ReadWhole.TheVariants as whole
 use Rattle.frag_io.specs.DeskState.{DeskState}
 use Rattle.frag_io.specs.Desk.{IsEmpty}
 use Rattle.frag_io.specs.Slot.{IsRead, IsWritten}
@@ -56,6 +58,12 @@ IsWriteAnswer slot status = (status ≡ Memory) ⊎ (status ≡ WriteFault slot)
 abbrev pub open_status_of : Slot → DeskFault → Status
 open_status_of slot Failed = OpenFault slot
 open_status_of slot OutOfMemory = Memory
+
+-- what a failed reading of a slot answers
+abbrev pub read_status_of : Slot → ReadWhole → Status
+read_status_of slot whole.Failed = ReadFault slot
+read_status_of slot whole.TooLong = TooLong slot
+read_status_of slot whole.OutOfMemory = Memory
 
 -- what a failed write or end of a slot answers
 abbrev pub write_status_of : Slot → DeskFault → Status

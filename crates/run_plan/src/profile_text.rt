@@ -3,18 +3,17 @@ ghost use Rattle.std.specs.Prelude.{◌≡◌, ◌⊎◌, ◌++◌, List, false,
 ghost use Rattle.frag_io.specs.declared.desk.Slot.{Slot};
 ghost use Rattle.frag_io.specs.Slot.{Same};
 ghost use Rattle.profile.specs.Profile.{ProfileValue};
-ghost use Rattle.run_plan.specs.Begins.{Begin, profile_begin};
 ghost use Rattle.run_plan.specs.Causes.{IsUnwritten};
 ghost use Rattle.run_plan.specs.Class.{class_of, memory, IsAnswer, IsOfProfile};
-ghost use Rattle.run_plan.specs.Limits.{AreReadWhole};
+ghost use Rattle.run_plan.specs.Plan.{Step, profile_steps};
 ghost use Rattle.run_plan.specs.ProfilePromise.{OnlyProfile, ProfilePromise, profile_outcome};
-ghost use Rattle.run_plan.specs.ProfileTaken.{IsTaken, refusal_of};
-ghost use Rattle.run_plan.specs.Running.{Ends, Runs};
+ghost use Rattle.run_plan.specs.ProfileTaken.{IsTaken, status_of_error};
+ghost use Rattle.run_plan.specs.Running.{Ends, HasDone};
 
 use crate::status::Status;
 use crate::steps::{begin_slot, read_text};
 use frag_io::{Desk, Slot};
-use profile::{Profile, ProfileFault, default_profile, read_profile};
+use profile::{Profile, ProfileError, default_profile, read_profile};
 use std::alloc::Global;
 
 /// Reads the profile that a name gives, or takes the default one where there is no name.
@@ -25,13 +24,10 @@ pub fn take_profile<D: Desk>(
 ) -> Result<Profile, Status>
     requires fresh { (slot : Slot) → (D.state desk.old).begun slot ≡ false }
     ensures taken { IfOk result (IsTaken (D.state desk.old).gives (option_map (λ name. name.now) name.entry)) }
-    ensures whole { OnOk result (AreReadWhole (profile_begin (option_map (λ name. name.now) name.entry))
+    ensures done { OnOk result (HasDone (profile_steps (option_map (λ name. name.now) name.entry)) (D.state desk.old)
+        (D.state desk.new)) }
+    ensures ends { (later : List Step) → IfErr result (Ends (profile_steps (option_map (λ name. name.now) name.entry) ++ later)
         (D.state desk.old) (D.state desk.new)) }
-    ensures runs { OnOk result (Runs (profile_begin (option_map (λ name. name.now) name.entry)) (D.state desk.old)
-        (D.state desk.new)) }
-    ensures ends { (rest : List Begin) → IfErr result
-        (Ends (profile_begin (option_map (λ name. name.now) name.entry) ++ rest) (D.state desk.old)
-        (D.state desk.new)) }
     ensures promise { IfErr result (ProfilePromise (option_map (λ name. name.now) name.entry) (D.state desk.old)
         (D.state desk.new)) }
     ensures own { IfErr result (λ status. (class_of status ≡ memory) ⊎ IsOfProfile (class_of status)) }
@@ -52,10 +48,9 @@ pub fn take_profile<D: Desk>(
 fn read_named<D: Desk>(alloc: Global, name: &str, desk: &mut D) -> Result<Profile, Status>
     requires fresh { (slot : Slot) → (D.state desk.old).begun slot ≡ false }
     ensures taken { IfOk result (IsTaken (D.state desk.old).gives (Some name.now)) }
-    ensures whole { OnOk result (AreReadWhole (profile_begin (Some name.now)) (D.state desk.old) (D.state desk.new)) }
-    ensures runs { OnOk result (Runs (profile_begin (Some name.now)) (D.state desk.old) (D.state desk.new)) }
-    ensures ends { (rest : List Begin) → IfErr result
-        (Ends (profile_begin (Some name.now) ++ rest) (D.state desk.old) (D.state desk.new)) }
+    ensures done { OnOk result (HasDone (profile_steps (Some name.now)) (D.state desk.old) (D.state desk.new)) }
+    ensures ends { (later : List Step) → IfErr result
+        (Ends (profile_steps (Some name.now) ++ later) (D.state desk.old) (D.state desk.new)) }
     ensures promise { IfErr result (ProfilePromise (Some name.now) (D.state desk.old) (D.state desk.new)) }
     ensures own { IfErr result (λ status. (class_of status ≡ memory) ⊎ IsOfProfile (class_of status)) }
     ensures accepted { IfErr result (λ status. (profile : ProfileValue)
@@ -68,16 +63,16 @@ fn read_named<D: Desk>(alloc: Global, name: &str, desk: &mut D) -> Result<Profil
     let text = read_text(alloc, desk, Slot::Profile)?;
     match read_profile(alloc, &text) {
         Ok(profile) => Ok(profile),
-        Err(fault) => Err(refusal(fault)),
+        Err(error) => Err(error_status(error)),
     }
 }
 
 /// What a run answers where no profile was read.
-fn refusal(fault: ProfileFault) -> Status
-    ensures { result ≡ refusal_of fault }
+fn error_status(error: ProfileError) -> Status
+    ensures { result ≡ status_of_error error }
 {
-    match fault {
-        ProfileFault::OutOfMemory => Status::Memory,
-        _ => Status::ProfileRefused(fault),
+    match error {
+        ProfileError::Refused(fault) => Status::ProfileRefused(fault),
+        ProfileError::OutOfMemory => Status::Memory,
     }
 }

@@ -31,9 +31,9 @@ pub enum Status {
     TooLong(Slot),
     /// This line refuses the text.
     MgfRefused(MgfFault),
-    /// The profile is refused, never for want of memory.
+    /// The profile is refused.
     ProfileRefused(ProfileFault),
-    /// The bytes of the document are refused, never for want of memory.
+    /// The bytes of the document are refused.
     DocumentRefused(CertFault),
     /// The document differs from the right ones of the text, here first.
     DocumentRejected(RejectPlace),
@@ -126,7 +126,6 @@ fn push_refusal(alloc: Global, line: &mut Vec<u8>, fault: &ProfileFault) -> Resu
             let digits = number.to_string(alloc)?;
             line.extend_from_slice(digits.as_bytes())?;
         }
-        ProfileFault::OutOfMemory => line.extend_from_slice(b"no memory")?,
     }
     Ok(())
 }

@@ -4,10 +4,11 @@ ghost use Rattle.frag_io.specs.declared.desk.Slot.TheVariants.{Profile, Report};
 ghost use Rattle.frag_io.specs.DeskState.{DeskState};
 ghost use Rattle.frag_io.specs.Slot.{Gains, IsRead, IsWritten, Same};
 ghost use Rattle.frag_io.specs.Desk.{appended, IsEmpty, Keeps};
-ghost use Rattle.run_plan.specs.Begins.{Begin, text_in};
+ghost use Rattle.run_plan.specs.Plan.{Step, begin, finish, is_read_in, read, write};
 ghost use Rattle.run_plan.specs.Causes.{IsUnwritten};
 ghost use Rattle.run_plan.specs.Limits.{greatest_text_of};
-ghost use Rattle.run_plan.specs.Running.{Ends, IsOpenAnswer, IsReadAnswer, IsWriteAnswer, Runs, write_status_of};
+ghost use Rattle.run_plan.specs.Running.{Ends, HasDone, IsOpenAnswer, IsReadAnswer, IsWriteAnswer};
+ghost use Rattle.run_plan.specs.Running.{open_status_of, read_status_of, write_status_of};
 
 use crate::status::Status;
 use frag_io::{Desk, DeskFault, ReadWhole, Slot, read_whole, write_whole};
@@ -46,16 +47,14 @@ pub fn begin_slot<D: Desk>(
     ensures keeps { Keeps slot (D.state desk.old) (D.state desk.new) }
     ensures answer { IfErr result (IsOpenAnswer slot) }
     ensures unwritten { IsUnwritten (D.state desk.old) → IsUnwritten (D.state desk.new) }
-    ensures runs { (done : List Begin) (before : DeskState) → Runs done before (D.state desk.old)
-        → OnOk result (Runs (done ++ record { slot = slot; name = name.now } ∷ []) before (D.state desk.new)) }
-    ensures ends { (done later : List Begin) (before : DeskState) → Runs done before (D.state desk.old)
-        → IsUnwritten (D.state desk.old)
-        → IfErr result (Ends (done ++ record { slot = slot; name = name.now } ∷ later) before (D.state desk.new)) }
+    ensures done { (done : List Step) (before : DeskState) → HasDone done before (D.state desk.old)
+        → OnOk result (HasDone (done ++ begin slot name.now ∷ []) before (D.state desk.new)) }
+    ensures ends { (done later : List Step) (before : DeskState) → HasDone done before (D.state desk.old)
+        → IfErr result (Ends (done ++ begin slot name.now ∷ later) before (D.state desk.new)) }
 {
     match desk.begin(alloc, slot, name) {
         Ok(()) => Ok(()),
-        Err(DeskFault::Failed) => Err(Status::OpenFault(slot)),
-        Err(DeskFault::OutOfMemory) => Err(Status::Memory),
+        Err(fault) => Err(open_status(slot, fault)),
     }
 }
 
@@ -71,17 +70,14 @@ pub fn read_text<D: Desk>(alloc: Global, desk: &mut D, slot: Slot) -> Result<Vec
     ensures keeps { Keeps slot (D.state desk.old) (D.state desk.new) }
     ensures answer { IfErr result (IsReadAnswer slot) }
     ensures unwritten { IsUnwritten (D.state desk.old) → IsUnwritten (D.state desk.new) }
-    ensures runs { (done : List Begin) (before : DeskState) → Runs done before (D.state desk.old)
-        → (D.state desk.old).left slot ≡ text_in done before slot → OnOk result (Runs done before (D.state desk.new)) }
-    ensures ends { (done rest : List Begin) (before : DeskState) → Runs done before (D.state desk.old)
-        → (D.state desk.old).left slot ≡ text_in done before slot → IsUnwritten (D.state desk.old)
-        → (slot ≢ Profile → rest ≡ []) → IfErr result (Ends (done ++ rest) before (D.state desk.new)) }
+    ensures done { (done : List Step) (before : DeskState) → HasDone done before (D.state desk.old)
+        → is_read_in done slot ≡ false → OnOk result (HasDone (done ++ read slot ∷ []) before (D.state desk.new)) }
+    ensures ends { (done later : List Step) (before : DeskState) → HasDone done before (D.state desk.old)
+        → is_read_in done slot ≡ false → IfErr result (Ends (done ++ read slot ∷ later) before (D.state desk.new)) }
 {
     match read_whole(alloc, desk, slot, limit_of(slot)) {
         Ok(text) => Ok(text),
-        Err(ReadWhole::Failed) => Err(Status::ReadFault(slot)),
-        Err(ReadWhole::TooLong) => Err(Status::TooLong(slot)),
-        Err(ReadWhole::OutOfMemory) => Err(Status::Memory),
+        Err(fault) => Err(read_status(slot, fault)),
     }
 }
 
@@ -102,10 +98,10 @@ pub fn write_slot<D: Desk>(
     ensures finished { Same (D.state desk.old).finished (D.state desk.new).finished }
     ensures keeps { Keeps slot (D.state desk.old) (D.state desk.new) }
     ensures answer { IfErr result (IsWriteAnswer slot) }
-    ensures runs { (done : List Begin) (before : DeskState) → Runs done before (D.state desk.old)
-        → Runs done before (D.state desk.new) }
-    ensures ends { (order : List Begin) (before : DeskState) → Runs order before (D.state desk.old)
-        → IfErr result (Ends order before (D.state desk.new)) }
+    ensures done { (done : List Step) (before : DeskState) → HasDone done before (D.state desk.old)
+        → OnOk result (HasDone (done ++ write slot ∷ []) before (D.state desk.new)) }
+    ensures ends { (done later : List Step) (before : DeskState) → HasDone done before (D.state desk.old)
+        → IfErr result (Ends (done ++ write slot ∷ later) before (D.state desk.new)) }
 {
     match write_whole(alloc, desk, slot, bytes) {
         Ok(()) => Ok(()),
@@ -123,14 +119,35 @@ pub fn finish_slot<D: Desk>(desk: &mut D, slot: Slot) -> Result<(), Status>
     ensures begun { Same (D.state desk.old).begun (D.state desk.new).begun }
     ensures keeps { Keeps slot (D.state desk.old) (D.state desk.new) }
     ensures answer { IfErr result (IsWriteAnswer slot) }
-    ensures runs { (done : List Begin) (before : DeskState) → Runs done before (D.state desk.old)
-        → Runs done before (D.state desk.new) }
-    ensures ends { (order : List Begin) (before : DeskState) → Runs order before (D.state desk.old)
-        → IfErr result (Ends order before (D.state desk.new)) }
+    ensures done { (done : List Step) (before : DeskState) → HasDone done before (D.state desk.old)
+        → OnOk result (HasDone (done ++ finish slot ∷ []) before (D.state desk.new)) }
+    ensures ends { (done later : List Step) (before : DeskState) → HasDone done before (D.state desk.old)
+        → IfErr result (Ends (done ++ finish slot ∷ later) before (D.state desk.new)) }
 {
     match desk.finish(slot) {
         Ok(()) => Ok(()),
         Err(fault) => Err(write_status(slot, fault)),
+    }
+}
+
+/// What a failed begin of a slot answers.
+fn open_status(slot: Slot, fault: DeskFault) -> Status
+    ensures { result ≡ open_status_of slot fault }
+{
+    match fault {
+        DeskFault::Failed => Status::OpenFault(slot),
+        DeskFault::OutOfMemory => Status::Memory,
+    }
+}
+
+/// What a failed reading of a slot answers.
+fn read_status(slot: Slot, fault: ReadWhole) -> Status
+    ensures { result ≡ read_status_of slot fault }
+{
+    match fault {
+        ReadWhole::Failed => Status::ReadFault(slot),
+        ReadWhole::TooLong => Status::TooLong(slot),
+        ReadWhole::OutOfMemory => Status::Memory,
     }
 }
 

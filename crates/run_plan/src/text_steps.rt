@@ -1,18 +1,17 @@
 //! The steps that commands on a text share: their slots begun and the text read, and the report written at the end.
-ghost use Rattle.std.specs.Prelude.{◌≡◌, ◌≢◌, ◌≤◌, ◌++◌, ◌∷◌, [], ℕ, List, true};
+ghost use Rattle.std.specs.Prelude.{◌≡◌, ◌≤◌, ◌++◌, ℕ, List, true};
 ghost use Rattle.std.specs.Prelude.{false, length, take, is_some, option_map, IfSome, IfOk, IfErr, OnOk, OnErr};
 ghost use Rattle.frag_io.specs.declared.desk.Slot.{Slot};
 ghost use Rattle.frag_io.specs.declared.desk.Slot.TheVariants.{Spectra, Report, CertOut};
 ghost use Rattle.frag_io.specs.DeskState.{DeskState};
 ghost use Rattle.frag_io.specs.Desk.{appended};
 ghost use Rattle.frag_io.specs.Slot.{IsRead, Same};
-ghost use Rattle.run_plan.specs.Begins.{Begin, name_in};
 ghost use Rattle.run_plan.specs.Causes.{IsUnwritten};
 ghost use Rattle.run_plan.specs.Class.{class_of, ended};
-ghost use Rattle.run_plan.specs.Limits.{AreReadWhole, greatest_text_of};
-ghost use Rattle.order_words.specs.Orders.{document_begin, text_begins};
+ghost use Rattle.run_plan.specs.Limits.{greatest_text_of};
+ghost use Rattle.run_plan.specs.Plan.{Step, document_steps, name_in, report_steps, text_steps};
 ghost use Rattle.run_plan.specs.ProfilePromise.{OnlyProfile};
-ghost use Rattle.run_plan.specs.Running.{Ends, Runs};
+ghost use Rattle.run_plan.specs.Running.{Ends, HasDone};
 ghost use Rattle.run_plan.specs.TextSteps.{HasSlots, IsDocumentSlot, IsTextStop, IsWriteStop, begin_of};
 
 use crate::status::Status;
@@ -34,25 +33,21 @@ pub fn read_spectra<D: Desk>(
     document: Option<DocumentSlot>,
     desk: &mut D,
 ) -> Result<Vec<u8>, Status>
-    requires kind { IfSome (option_map begin_of document) (λ begin. IsDocumentSlot begin.slot) }
+    requires kind { IfSome document (λ it. IsDocumentSlot it.slot) }
     requires only { OnlyProfile (D.state desk.old) }
     requires unwritten { IsUnwritten (D.state desk.old) }
     ensures text { IfSome ((D.state desk.old).gives name.now) (λ text. IfOk result (λ bytes. text ≡ bytes.items)) }
     ensures short { IfOk result (λ bytes. length bytes.items ≤ greatest_text_of Spectra) }
     ensures begun { OnOk result (HasSlots (option_map begin_of document.entry) (D.state desk.new)) }
-    ensures unread { OnOk result (IfSome (option_map begin_of document.entry) (λ begin. IsRead begin.slot
-        → (D.state desk.new).left begin.slot ≡ (D.state desk.old).gives begin.name)) }
+    ensures unread { OnOk result (IfSome document.entry (λ it. IsRead it.slot
+        → (D.state desk.new).left it.slot ≡ (D.state desk.old).gives it.name.now)) }
     ensures finished { Same (D.state desk.old).finished (D.state desk.new).finished }
     ensures unwritten { IsUnwritten (D.state desk.new) }
-    ensures runs { (done : List Begin) (before : DeskState) → Runs done before (D.state desk.old)
-        → OnOk result (Runs (done ++ text_begins name.now (option_map begin_of document.entry)) before
+    ensures done { (done : List Step) (before : DeskState) → HasDone done before (D.state desk.old)
+        → OnOk result (HasDone (done ++ text_steps name.now (option_map begin_of document.entry)) before
         (D.state desk.new)) }
-    ensures whole { (done : List Begin) (before : DeskState) → Runs done before (D.state desk.old)
-        → AreReadWhole done before (D.state desk.old)
-        → OnOk result (AreReadWhole (done ++ record { slot = Spectra; name = name.now } ∷ []) before
-        (D.state desk.new)) }
-    ensures ends { (done : List Begin) (before : DeskState) → Runs done before (D.state desk.old)
-        → IfErr result (Ends (done ++ text_begins name.now (option_map begin_of document.entry)) before
+    ensures ends { (done later : List Step) (before : DeskState) → HasDone done before (D.state desk.old)
+        → IfErr result (Ends (done ++ (text_steps name.now (option_map begin_of document.entry) ++ later)) before
         (D.state desk.new)) }
     ensures stop { IfErr result (λ status. IsTextStop (class_of status)) }
 {
@@ -68,13 +63,13 @@ fn begin_document<D: Desk>(
     desk: &mut D,
     document: Option<DocumentSlot>,
 ) -> Result<(), Status>
-    requires kind { IfSome (option_map begin_of document) (λ begin. IsDocumentSlot begin.slot) }
+    requires kind { IfSome document (λ it. IsDocumentSlot it.slot) }
     requires fresh { (slot : Slot) → IsDocumentSlot slot → (D.state desk.old).begun slot ≡ false }
     ensures begun { OnOk result ((slot : Slot) → IsDocumentSlot slot
         → (D.state desk.new).begun slot
-        ≡ is_some (name_in (document_begin (option_map begin_of document.entry)) slot)) }
-    ensures unread { OnOk result (IfSome (option_map begin_of document.entry) (λ begin. IsRead begin.slot
-        → (D.state desk.new).left begin.slot ≡ (D.state desk.old).gives begin.name)) }
+        ≡ is_some (name_in (document_steps (option_map begin_of document.entry)) slot)) }
+    ensures unread { OnOk result (IfSome document.entry (λ it. IsRead it.slot
+        → (D.state desk.new).left it.slot ≡ (D.state desk.old).gives it.name.now)) }
     ensures others { (slot : Slot) → (IsDocumentSlot slot → ⊥)
         → ((D.state desk.new).begun slot ≡ (D.state desk.old).begun slot)
         × ((D.state desk.new).left slot ≡ (D.state desk.old).left slot) }
@@ -82,11 +77,11 @@ fn begin_document<D: Desk>(
     ensures finished { Same (D.state desk.old).finished (D.state desk.new).finished }
     ensures stop { IfErr result (λ status. IsTextStop (class_of status)) }
     ensures unwritten { IsUnwritten (D.state desk.old) → IsUnwritten (D.state desk.new) }
-    ensures runs { (done : List Begin) (before : DeskState) → Runs done before (D.state desk.old)
-        → OnOk result (Runs (done ++ document_begin (option_map begin_of document.entry)) before (D.state desk.new)) }
-    ensures ends { (done later : List Begin) (before : DeskState) → Runs done before (D.state desk.old)
-        → IsUnwritten (D.state desk.old)
-        → IfErr result (Ends (done ++ (document_begin (option_map begin_of document.entry) ++ later)) before
+    ensures done { (done : List Step) (before : DeskState) → HasDone done before (D.state desk.old)
+        → OnOk result (HasDone (done ++ document_steps (option_map begin_of document.entry)) before
+        (D.state desk.new)) }
+    ensures ends { (done later : List Step) (before : DeskState) → HasDone done before (D.state desk.old)
+        → IfErr result (Ends (done ++ (document_steps (option_map begin_of document.entry) ++ later)) before
         (D.state desk.new)) }
 {
     match document {
@@ -105,11 +100,11 @@ pub fn write_report<D: Desk>(alloc: Global, desk: &mut D, report: &[u8]) -> Resu
     ensures part { OnErr result ((n : ℕ)
         × ((D.state desk.new).written Report ≡ appended ((D.state desk.old).written Report) (take n report.now))) }
     ensures stop { IfErr result (λ status. IsWriteStop (class_of status)) }
-    ensures ended { (order : List Begin) (before : DeskState) → Runs order before (D.state desk.old)
-        → AreReadWhole order before (D.state desk.old)
-        → OnOk result ((status : Status) → class_of status ≡ ended → Ends order before (D.state desk.new) status) }
-    ensures ends { (order : List Begin) (before : DeskState) → Runs order before (D.state desk.old)
-        → IfErr result (Ends order before (D.state desk.new)) }
+    ensures ended { (done : List Step) (before : DeskState) → HasDone done before (D.state desk.old)
+        → OnOk result ((status : Status) → class_of status ≡ ended
+        → Ends (done ++ report_steps) before (D.state desk.new) status) }
+    ensures ends { (done : List Step) (before : DeskState) → HasDone done before (D.state desk.old)
+        → IfErr result (Ends (done ++ report_steps) before (D.state desk.new)) }
 {
     write_slot(alloc, desk, Slot::Report, report)?;
     finish_slot(desk, Slot::Report)
