@@ -1,4 +1,5 @@
--- What a bound has to hold, so that no colourful list of edges of a set scores more than a number: prices and potentials
+-- What a bound has to hold, so that no colourful list of edges of a set scores more than a number: prices and
+-- potentials
 -- do, or the set is split by the edges into a colour, of which a list has at most one, and each side has such a bound.
 use Rattle.std.specs.Prelude.{◌≤◌, ◌<◌, ◌+◌, ◌*◌, ℕ, ℤ, ◌≤ℤ◌, Bool, List, length, max}
 use Rattle.std.specs.List.{All, AllPairs, Contains}
@@ -36,6 +37,10 @@ nodes_of bound = 2 * splits_of bound + 1
 abbrev pub depth_of : BoundValue → ℕ
 depth_of (priced cert) = 0
 depth_of (split colour part first second) = 1 + max (depth_of first) (depth_of second)
+
+-- A certificate has at most so many splits above its prices.
+abbrev pub greatest_depth : ℕ
+greatest_depth = 1024
 
 -- a set with at most one edge into each colour: nothing of it can be split
 abbrev pub IsDecided : Graph → List Bool → Type 0
