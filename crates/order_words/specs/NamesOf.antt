@@ -3,7 +3,8 @@ use Rattle.std.specs.Option.{option_copied}
 use Rattle.order_words.specs.declared.orders.ListNames.{ListNames as NamesRead}
 use Rattle.order_words.specs.declared.orders.DocumentNames.{DocumentNames as DocumentNamesRead}
 use Rattle.order_words.specs.declared.orders.Order.{Order as OrderRead}
-use Rattle.order_words.specs.declared.orders.Order.TheVariants.{List as ListRead, Solve as SolveRead, Check as CheckRead}
+use Rattle.order_words.specs.declared.orders.Order.TheVariants.{List as ListRead, Solve as SolveRead}
+use Rattle.order_words.specs.declared.orders.Order.TheVariants.{Check as CheckRead}
 use Rattle.order_words.specs.Orders.{ListNames, DocumentNames, Order, list, solve, check}
 
 -- the names that the code reads, as texts

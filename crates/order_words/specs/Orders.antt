@@ -1,10 +1,11 @@
 -- The commands: what words order, and under which options.
-use Rattle.std.specs.Prelude.{ℕ, List, [], ◌∷◌, ◌++◌, codes, Option, Some, None, Bool, true, not, ◌&&◌, if◌then◌else◌, unwrap_or}
+use Rattle.std.specs.Prelude.{ℕ, List, [], ◌∷◌, codes, Option, Some, None, Bool, true, not, ◌&&◌, if◌then◌else◌}
+use Rattle.std.specs.Prelude.{unwrap_or}
 use Rattle.std.specs.Option.{option_map, option_and_then}
 use Rattle.std.specs.Str.{bytes_eq}
 use Rattle.adducts.specs.Adduct.{AdductValue}
 use Rattle.adducts.specs.Table.{adduct_named}
-use Rattle.order_words.specs.Words.{Given, OptionRow, required, optional, form_of, value_in}
+use Rattle.order_words.specs.Words.{Given, KnownOption, required, optional, formed_options, value_in}
 
 -- what a list is asked for: the name of its text, that of its profile where it has one, and the adduct of its ions
 pub record ListNames : Type 0 where
@@ -29,7 +30,7 @@ pub data Order : Type 0 where
 abbrev pub adduct_by : Option (List ℕ) → Option AdductValue
 adduct_by given = adduct_named (unwrap_or given (codes "[M+H]+"))
 
-abbrev pub list_options : List OptionRow
+abbrev pub list_options : List KnownOption
 list_options =
     record { name = codes "--in"; need = required } ∷ record { name = codes "--profile"; need = optional }
     ∷ record { name = codes "--adduct"; need = optional } ∷ []
@@ -47,7 +48,7 @@ abbrev pub list_order_of : List Given → Option Order
 list_order_of options = option_map (λ names. list names) (text_names_of options)
 
 -- the options of a solving, and of a check
-abbrev pub document_options : List OptionRow
+abbrev pub document_options : List KnownOption
 document_options = record { name = codes "--cert"; need = required } ∷ list_options
 
 -- a name is another than that of a slot that may have one
@@ -88,9 +89,10 @@ check_order_of options = option_map (λ names. check names) (document_names_in o
 abbrev pub order_of : List (List ℕ) → Option Order
 order_of [] = None
 order_of (command ∷ words) =
-    if bytes_eq command (codes "list") then option_and_then list_order_of (form_of list_options words) else
-    if bytes_eq command (codes "solve") then option_and_then solve_order_of (form_of document_options words) else
-    if bytes_eq command (codes "check") then option_and_then check_order_of (form_of document_options words) else None
+    if bytes_eq command (codes "list") then option_and_then list_order_of (formed_options list_options words) else
+    if bytes_eq command (codes "solve") then option_and_then solve_order_of (formed_options document_options words) else
+    if bytes_eq command (codes "check") then option_and_then check_order_of (formed_options document_options words) else
+    None
 
 -- the name of the profile of an order, where it has one
 abbrev pub profile_named : Order → Option (List ℕ)

@@ -1,5 +1,6 @@
 -- The form of words: the options of a command, and what words give of them.
-use Rattle.std.specs.Prelude.{ℕ, List, [], ◌∷◌, map, filter, Option, Some, None, Bool, true, false, ◌==◌, ◌&&◌, if◌then◌else◌, String, string_bytes}
+use Rattle.std.specs.Prelude.{ℕ, List, [], ◌∷◌, map, filter, Option, Some, None, Bool, true, false, ◌==◌, ◌&&◌}
+use Rattle.std.specs.Prelude.{if◌then◌else◌, String, string_bytes}
 use Rattle.std.specs.declared.alloc.Global.{Global}
 use Rattle.std.specs.List.{list_all, list_any, before_first, after_first}
 use Rattle.std.specs.Option.{option_map, option_and_then}
@@ -12,7 +13,7 @@ pub data Need : Type 0 where
   flag : Need
 
 -- an option of a command
-pub record OptionRow : Type 0 where
+pub record KnownOption : Type 0 where
   pub name : List ℕ
   pub need : Need
 
@@ -47,13 +48,13 @@ is_flag_need optional = false
 is_flag_need flag = true
 
 -- the word is an option without a value
-abbrev pub is_flag : List OptionRow → List ℕ → Bool
-is_flag table word = list_any (λ row. bytes_eq row.name word && is_flag_need row.need) table
+abbrev pub is_flag : List KnownOption → List ℕ → Bool
+is_flag table word = list_any (λ known. bytes_eq known.name word && is_flag_need known.need) table
 
 -- The options that words give to a command, in their order: a word with an equals sign gives one by itself, and so does
 -- an option without a value; any other word is the name of one whose value is the next word, which begins with no dash.
 -- None where the words have another form.
-abbrev pub options_of : List OptionRow → List (List ℕ) → Option (List Given)
+abbrev pub options_of : List KnownOption → List (List ℕ) → Option (List Given)
 options_of table [] = Some []
 options_of table (word ∷ []) =
     if has_equals_sign word then Some (joined word ∷ []) else
@@ -70,8 +71,8 @@ abbrev pub values_of : List ℕ → List Given → List (Option (List ℕ))
 values_of name options = map (λ option. option.value) (filter (λ option. bytes_eq option.name name) options)
 
 -- an option is one of a command's
-abbrev pub is_in_table : List OptionRow → Given → Bool
-is_in_table table option = list_any (λ row. bytes_eq row.name option.name) table
+abbrev pub is_in_table : List KnownOption → Given → Bool
+is_in_table table option = list_any (λ known. bytes_eq known.name option.name) table
 
 -- what is given for an option is what the command needs
 abbrev pub meets : Need → List (Option (List ℕ)) → Bool
@@ -83,13 +84,13 @@ meets flag (None ∷ []) = true
 meets need values = false
 
 -- Each option is one of the command's, and for each of these there is what it needs.
-abbrev pub has_form : List OptionRow → List Given → Bool
+abbrev pub has_form : List KnownOption → List Given → Bool
 has_form table options =
-    list_all (is_in_table table) options && list_all (λ row. meets row.need (values_of row.name options)) table
+    list_all (is_in_table table) options && list_all (λ known. meets known.need (values_of known.name options)) table
 
 -- the options that words of the right form give to a command
-abbrev pub form_of : List OptionRow → List (List ℕ) → Option (List Given)
-form_of table words =
+abbrev pub formed_options : List KnownOption → List (List ℕ) → Option (List Given)
+formed_options table words =
     option_and_then (λ options. if has_form table options then Some options else None) (options_of table words)
 
 abbrev pub first_value : List (Option (List ℕ)) → Option (List ℕ)

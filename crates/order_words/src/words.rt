@@ -1,10 +1,12 @@
 //! The form of words: the options that they give to a command.
-ghost use Rattle.std.specs.Prelude.{◌≡◌, ◌≤◌, ◌∷◌, ◌++◌, ℕ, List, [], IfSome, MatchOption, Option, Some, None, length, true, false, option_map};
+ghost use Rattle.std.specs.Prelude.{◌≡◌, ◌≤◌, ◌∷◌, ◌++◌, ℕ, List, [], IfSome, MatchOption, Option, Some, None, length};
+ghost use Rattle.std.specs.Prelude.{true, false, option_map};
 ghost use Rattle.std.specs.Option.{option_copied};
 ghost use Rattle.std.specs.List.{list_all, list_any};
 ghost use Rattle.std.specs.Str.{bytes_eq};
-ghost use Rattle.order_words.specs.Words.{Given, begins_with_dash, has_equals_sign, is_flag, is_flag_need, is_in_table, joined, meets, options_of, texts_of, value_in, values_of};
-ghost use Rattle.order_words.specs.inside.Words.{IsFound, given_of, is_of_form, need_of, rows_of, value_under};
+ghost use Rattle.order_words.specs.Words.{Given, begins_with_dash, has_equals_sign, is_flag, is_flag_need, is_in_table};
+ghost use Rattle.order_words.specs.Words.{joined, meets, options_of, texts_of, value_in, values_of};
+ghost use Rattle.order_words.specs.inside.Words.{IsFound, given_of, is_of_form, need_of, known_in, value_under};
 
 /// How an option stands in a command.
 #[derive(Clone, Copy)]
@@ -19,7 +21,7 @@ pub enum Need {
 
 /// An option of a command.
 #[derive(Clone, Copy)]
-pub struct OptionRow {
+pub struct KnownOption {
     pub name: &'static str,
     pub need: Need,
 }
@@ -99,8 +101,8 @@ impl<'a> Found<'a> {
 }
 
 /// Whether words are of the form of a command's options.
-pub fn is_of_form(table: &[OptionRow], words: &[String]) -> bool
-    ensures { result ≡ is_of_form (rows_of table.now) (texts_of words.now) }
+pub fn is_of_form(table: &[KnownOption], words: &[String]) -> bool
+    ensures { result ≡ is_of_form (known_in table.now) (texts_of words.now) }
 {
     let known = are_known(table, words);
     let met = are_met(table, words);
@@ -108,12 +110,12 @@ pub fn is_of_form(table: &[OptionRow], words: &[String]) -> bool
 }
 
 /// Whether words give for each option of a command what it needs.
-fn are_met(table: &[OptionRow], words: &[String]) -> bool
-    ensures { (options : List Given) → options_of (rows_of table.now) (texts_of words.now) ≡ Some options
-        → result ≡ list_all (λ row. meets row.need (values_of row.name options)) (rows_of table.now) }
+fn are_met(table: &[KnownOption], words: &[String]) -> bool
+    ensures { (options : List Given) → options_of (known_in table.now) (texts_of words.now) ≡ Some options
+        → result ≡ list_all (λ known. meets known.need (values_of known.name options)) (known_in table.now) }
 {
-    for row in table {
-        if !is_row_met(table, words, row.name, row.need) {
+    for known in table {
+        if !is_need_met(table, words, known.name, known.need) {
             return false;
         }
     }
@@ -121,16 +123,16 @@ fn are_met(table: &[OptionRow], words: &[String]) -> bool
 }
 
 /// Whether words give for an option what a command needs of it.
-fn is_row_met(table: &[OptionRow], words: &[String], name: &str, need: Need) -> bool
-    ensures { (options : List Given) → options_of (rows_of table.now) (texts_of words.now) ≡ Some options
+fn is_need_met(table: &[KnownOption], words: &[String], name: &str, need: Need) -> bool
+    ensures { (options : List Given) → options_of (known_in table.now) (texts_of words.now) ≡ Some options
         → result ≡ meets (need_of need) (values_of name.now options) }
 {
     need.is_met(find_option(table, words, name))
 }
 
 /// The value that words of the form of a command's options give for one of them.
-pub fn value_of<'a>(table: &[OptionRow], words: &'a [String], name: &str) -> Option<&'a str>
-    ensures { IfSome (options_of (rows_of table.now) (texts_of words.now)) (λ options.
+pub fn value_of<'a>(table: &[KnownOption], words: &'a [String], name: &str) -> Option<&'a str>
+    ensures { IfSome (options_of (known_in table.now) (texts_of words.now)) (λ options.
         option_copied result ≡ value_in name.now options) }
 {
     match find_option(table, words, name) {
@@ -141,9 +143,9 @@ pub fn value_of<'a>(table: &[OptionRow], words: &'a [String], name: &str) -> Opt
 }
 
 /// Whether words give options of a command alone.
-fn are_known(table: &[OptionRow], words: &[String]) -> bool
-    ensures { MatchOption (options_of (rows_of table.now) (texts_of words.now)) (result ≡ false)
-        (λ options. result ≡ list_all (is_in_table (rows_of table.now)) options) }
+fn are_known(table: &[KnownOption], words: &[String]) -> bool
+    ensures { MatchOption (options_of (known_in table.now) (texts_of words.now)) (result ≡ false)
+        (λ options. result ≡ list_all (is_in_table (known_in table.now)) options) }
 {
     let mut rest = words;
     while let [word, later @ ..] = rest {
@@ -159,8 +161,8 @@ fn are_known(table: &[OptionRow], words: &[String]) -> bool
 }
 
 /// What words give for an option.
-fn find_option<'a>(table: &[OptionRow], words: &'a [String], name: &str) -> Found<'a>
-    ensures { IfSome (options_of (rows_of table.now) (texts_of words.now)) (λ options.
+fn find_option<'a>(table: &[KnownOption], words: &'a [String], name: &str) -> Found<'a>
+    ensures { IfSome (options_of (known_in table.now) (texts_of words.now)) (λ options.
         IsFound result (values_of name.now options)) }
 {
     let mut found = Found::Nothing;
@@ -177,14 +179,14 @@ fn find_option<'a>(table: &[OptionRow], words: &'a [String], name: &str) -> Foun
 
 /// The option that a word begins, and the words behind it. `None` where it has no value and needs one.
 fn next_option<'a>(
-    table: &[OptionRow],
+    table: &[KnownOption],
     word: &'a str,
     later: &'a [String],
 ) -> Option<NextOption<'a>>
-    ensures options { MatchOption result (options_of (rows_of table.now) (word.now ∷ texts_of later.now) ≡ None)
-        (λ next. options_of (rows_of table.now) (word.now ∷ texts_of later.now)
+    ensures options { MatchOption result (options_of (known_in table.now) (word.now ∷ texts_of later.now) ≡ None)
+        (λ next. options_of (known_in table.now) (word.now ∷ texts_of later.now)
         ≡ option_map (λ options. given_of next ∷ options)
-        (options_of (rows_of table.now) (texts_of next.behind.now))) }
+        (options_of (known_in table.now) (texts_of next.behind.now))) }
     ensures shorter { IfSome result (λ next. length next.behind.now ≤ length later.now) }
 {
     if let Some((name, value)) = split_at_sign(word) {
@@ -233,11 +235,11 @@ fn starts_with_dash(word: &str) -> bool
 }
 
 /// Whether a name is that of one of these options.
-fn is_name_in(table: &[OptionRow], name: &str) -> bool
-    ensures { result ≡ list_any (λ row. bytes_eq row.name name.now) (rows_of table.now) }
+fn is_name_in(table: &[KnownOption], name: &str) -> bool
+    ensures { result ≡ list_any (λ known. bytes_eq known.name name.now) (known_in table.now) }
 {
-    for row in table {
-        if row.name == name {
+    for known in table {
+        if known.name == name {
             return true;
         }
     }
@@ -245,72 +247,13 @@ fn is_name_in(table: &[OptionRow], name: &str) -> bool
 }
 
 /// Whether a word is one of these options, and one without a value.
-fn is_flag(table: &[OptionRow], word: &str) -> bool
-    ensures { result ≡ is_flag (rows_of table.now) word.now }
+fn is_flag(table: &[KnownOption], word: &str) -> bool
+    ensures { result ≡ is_flag (known_in table.now) word.now }
 {
-    for row in table {
-        if row.name == word && row.need.is_flag() {
+    for known in table {
+        if known.name == word && known.need.is_flag() {
             return true;
         }
     }
     false
-}
-
-#[cfg(test)]
-mod tests {
-    use super::{Need, OptionRow, is_of_form, value_of};
-    use std::alloc::{AllocError, Global};
-    use std::test::Fail;
-
-    const TABLE: [OptionRow; 3] = [
-        OptionRow {
-            name: "--in",
-            need: Need::Required,
-        },
-        OptionRow {
-            name: "--out",
-            need: Need::Optional,
-        },
-        OptionRow {
-            name: "--json",
-            need: Need::Flag,
-        },
-    ];
-
-    /// Words with a space between, and whether they are of the form of these options.
-    const LINES: [(&str, bool); 12] = [
-        ("--in a", true),
-        ("--in=a --out b", true),
-        ("--json --in a", true),
-        ("--in a --json", true),
-        ("--in a --json --out=b", true),
-        ("--json", false),
-        ("--in a --json --json", false),
-        ("--in a --json b", false),
-        ("--in a --json=b", false),
-        ("--in --json", false),
-        ("--in a --in b", false),
-        ("--in a --to b", false),
-    ];
-
-    fn words_of(alloc: Global, line: &str) -> Result<Vec<String>, AllocError> {
-        let mut words = Vec::new(alloc);
-        for word in line.split(' ') {
-            words.push(String::from_str(alloc, word)?)?;
-        }
-        Ok(words)
-    }
-
-    #[test]
-    fn options_without_a_value_take_none(rt: HostRuntime) -> Result<(), Fail> {
-        for (line, right) in LINES {
-            let words = words_of(rt.alloc(), line)?;
-            assert_eq!(rt; is_of_form(&TABLE, &words), right, "of {line}");
-            if right {
-                assert_eq!(rt; value_of(&TABLE, &words, "--in"), Some("a"));
-                assert!(rt; value_of(&TABLE, &words, "--json").is_none());
-            }
-        }
-        Ok(())
-    }
 }

@@ -12,7 +12,8 @@ use Rattle.right_document.specs.RunSettings.{RunSettingsValue, list_of_ion}
 use Rattle.right_document.specs.Outlines.{AreOwnLists}
 use Rattle.right_document.proofs.AllPairs.{AllPairs-map}
 
-pub own_lists : (settings : RunSettingsValue) (precursor : ℕ) (peaks selected : List PeakValue) (lists : List FormulaListValue)
+pub own_lists : (settings : RunSettingsValue) (precursor : ℕ) (peaks selected : List PeakValue)
+    (lists : List FormulaListValue)
     → lists ≡ lists_of settings precursor selected → All (IsList settings.choice) lists
     → StandApart settings.choice precursor peaks selected → AreOwnLists settings.choice lists
 own_lists settings precursor peaks selected lists is each apart =
@@ -35,5 +36,6 @@ own_lists settings precursor peaks selected lists is each apart =
       some = omega arith;
       few = omega (arith, apart.few, length-map selected list_of);
       each = lists_each;
-      roots = λ fewer root holds. record { some = omega arith; few = fewer; each = lists_each; holds_root = holds; peaks = peak_lists };
+      roots = λ fewer root holds. record
+          { some = omega arith; few = fewer; each = lists_each; holds_root = holds; peaks = peak_lists };
     }

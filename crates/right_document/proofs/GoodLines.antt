@@ -1,23 +1,26 @@
 -- `IsGoodLine`: a line whose fields have their spellings and their ranges is good.
-use Rattle.std.proofs.Common.{◌≡◌, ◌≤◌, ◌<◌, ◌++◌, ◌∷◌, ◌∙◌, ◌⊎◌, inl, inr, ◌^◌, [], ℕ, suc, ℤ, pos, negsuc, true, false, List, length, get_or}
-use Rattle.std.proofs.Common.{Some, eqb, map, decimal, unsigned_abs, refl, ap, arith, rules}
+use Rattle.std.proofs.Common.{◌≡◌, ◌≤◌, ◌<◌, ◌∷◌, ◌∙◌, ◌⊎◌, inl, inr, ◌^◌, [], ℕ, suc, ℤ, pos, negsuc, true}
+use Rattle.std.proofs.Common.{false, List, length, get_or, Some, eqb, decimal, unsigned_abs, refl, ap, arith}
+use Rattle.std.proofs.Common.{rules}
 use Rattle.std.specs.Bool.{⊤}
-use Rattle.std.proofs.lemmas.Bool.{and_from, and_parts, cases_eq, le-leb, leb-true, lt-ltb, ne_eqb}
+use Rattle.std.proofs.lemmas.Bool.{and_from, and_parts, cases_eq, le-leb, leb-true, ne_eqb}
 use Rattle.std.proofs.lemmas.Fmt.{decimal_digit, decimal_nonempty, digits_decimal, digits_value-decimal, first_decimal}
 use Rattle.std.proofs.lemmas.Str.Parse.{IsNumeralModel, numerals_by_value}
 use Rattle.std.specs.Fmt.{signed_decimal}
-use Rattle.std.specs.List.{All, AllByRecursion, flat_map, list_all}
+use Rattle.std.specs.List.{AllByRecursion, flat_map, list_all}
 use Rattle.std.specs.Str.{all_ascii_digits}
 use Rattle.std.specs.Str.Parse.{digits_value}
 use Rattle.element_table.specs.Formula.{IsFormula}
 use Rattle.mgf_reader.specs.Fault.{kind_number, kind_of_number}
 use Rattle.mgf_reader.specs.declared.fault.MgfKind.{MgfKind}
-use Rattle.mgf_reader.specs.declared.fault.MgfKind.TheVariants.{NestedBegin, StrayEnd, OpenBlock, PeakOutside, BadPeak, BadPrecursor, BadCharge}
-use Rattle.mgf_reader.specs.declared.fault.MgfKind.TheVariants.{NoForm, LineTooLong, TooManyPeaks}
-use Rattle.tree_document.specs.Document.{AreGoodLines, IsGoodLine}
-use Rattle.tree_document.specs.Line.{Field, a_word, a_number, a_signed, a_formula, a_mark, a_kind, a_title, some_numbers}
-use Rattle.tree_document.specs.Line.{Line, WritesAll, WritesField, WritesFields, WritesNumber, WritesSigned, field_text, form_of}
-use Rattle.tree_document.specs.Line.{is_field_in_range, is_number, is_shallow, word_of}
+use Rattle.mgf_reader.specs.declared.fault.MgfKind.TheVariants.{NestedBegin, StrayEnd, OpenBlock, PeakOutside, BadPeak}
+use Rattle.mgf_reader.specs.declared.fault.MgfKind.TheVariants.{BadPrecursor, BadCharge, NoForm, LineTooLong}
+use Rattle.mgf_reader.specs.declared.fault.MgfKind.TheVariants.{TooManyPeaks}
+use Rattle.tree_document.specs.Document.{IsGoodLine}
+use Rattle.tree_document.specs.Line.{Field, a_word, a_number, a_signed, a_formula, a_mark, a_kind, a_title}
+use Rattle.tree_document.specs.Line.{some_numbers, Line, WritesAll, WritesField, WritesFields, WritesNumber}
+use Rattle.tree_document.specs.Line.{WritesSigned, field_text, form_of, is_field_in_range, is_number, is_shallow}
+use Rattle.tree_document.specs.Line.{word_of}
 use Rattle.tree_certificate.specs.Number.{is_near}
 use Rattle.tree_document.specs.Title.{are_bytes}
 
@@ -26,7 +29,8 @@ use Rattle.tree_document.specs.Title.{are_bytes}
 own : IsNumeralModel (λ digits. all_ascii_digits digits ≡ true) (digits_value 10)
 own = numerals_by_value _ (search rules)
 
-is_number-from : (digits : List ℕ) → all_ascii_digits digits ≡ true → 0 < length digits → (get_or digits 0 0 ≡ 48 → length digits ≡ 1)
+is_number-from : (digits : List ℕ) → all_ascii_digits digits ≡ true → 0 < length digits
+    → (get_or digits 0 0 ≡ 48 → length digits ≡ 1)
     → is_number digits ≡ true
 is_number-from [] all some nought = absurd (omega arith)
 is_number-from (digit ∷ []) all some nought = (and_parts _ _ all).0
@@ -104,8 +108,10 @@ field_in_range (some_numbers least count most numbers) good = and_from _ _ (le-l
 
 field_written : (field : Field) → IsGoodField field → WritesField field (field_text field)
 field_written (a_word word) good = refl
-field_written (a_number least most number) good = (decimal number, refl, number_written number (omega (arith, good.1, good.2)))
-field_written (a_signed most number) good = (signed_decimal number, refl, signed_written number (omega (arith, good.0, good.1)))
+field_written (a_number least most number) good =
+    (decimal number, refl, number_written number (omega (arith, good.1, good.2)))
+field_written (a_signed most number) good =
+    (signed_decimal number, refl, signed_written number (omega (arith, good.0, good.1)))
 field_written (a_formula counts) good = (good, refl)
 field_written (a_mark mark) good = refl
 field_written (a_kind number) good =
@@ -118,39 +124,17 @@ fields_in_range : (fields : List Field) → AllByRecursion IsGoodField fields �
 fields_in_range [] good = refl
 fields_in_range (field ∷ fields) good = and_from _ _ (field_in_range field good.0) (fields_in_range fields good.1)
 
-fields_written : (fields : List Field) → AllByRecursion IsGoodField fields → WritesFields fields (flat_map field_text fields)
+fields_written : (fields : List Field) → AllByRecursion IsGoodField fields
+    → WritesFields fields (flat_map field_text fields)
 fields_written [] good = refl
 fields_written (field ∷ fields) good =
     (field_text field, flat_map field_text fields, refl, field_written field good.0, fields_written fields good.1)
 
 -- A line that is no split is good where each of its fields is.
-pub line_is_good : (line : Line) → is_shallow line ≡ true → AllByRecursion IsGoodField (form_of line).fields → IsGoodLine line
+pub line_is_good : (line : Line) → is_shallow line ≡ true → AllByRecursion IsGoodField (form_of line).fields
+    → IsGoodLine line
 line_is_good line shallow good = record {
   in_range = fields_in_range (form_of line).fields good;
   shallow = shallow;
   spelled = (flat_map field_text (form_of line).fields, refl, fields_written (form_of line).fields good);
 }
-
--- lines of several parts
-
-pub good-append : (lines more : List Line) → AreGoodLines lines → AreGoodLines more → AreGoodLines (lines ++ more)
-good-append [] more good others = others
-good-append (line ∷ lines) more good others = (good.0, good-append lines more good.1 others)
-
-pub good-map : {X : Type 0} (line_of : X → Line) (items : List X) → All (λ item. IsGoodLine (line_of item)) items
-    → AreGoodLines (map line_of items)
-good-map line_of [] good = tt
-good-map line_of (item ∷ items) good =
-    (good 0 item (omega arith), good-map line_of items (λ k d within. good (suc k) d (omega arith)))
-
-pub good-flat_map : {X : Type 0} (lines_of : X → List Line) (items : List X) → All (λ item. AreGoodLines (lines_of item)) items
-    → AreGoodLines (flat_map lines_of items)
-good-flat_map lines_of [] good = tt
-good-flat_map lines_of (item ∷ items) good =
-    good-append (lines_of item) (flat_map lines_of items) (good 0 item (omega arith))
-    (good-flat_map lines_of items (λ k d within. good (suc k) d (omega arith)))
-
--- a title that was read as bytes
-pub title_is_bytes : (title : List ℕ) → ((place : ℕ) → get_or title place 0 < 256) → are_bytes title ≡ true
-title_is_bytes [] fits = refl
-title_is_bytes (byte ∷ title) fits = and_from _ _ (lt-ltb byte 256 (fits 0)) (title_is_bytes title (λ place. fits (suc place)))

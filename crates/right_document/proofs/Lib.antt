@@ -1,11 +1,9 @@
-pub mod OneOutline
-pub mod LiesBelow
-pub mod AllPairs
-pub mod AreOwnLists
+mod OneOutline
+mod LiesBelow
+mod AllPairs
+mod AreOwnLists
+mod GoodReasons
 pub mod CandidatesOf
-pub mod SolvedIsRight
 pub mod OneEach
 pub mod IsPrefix
 pub mod GoodLines
-pub mod GoodEntries
-pub mod GoodSections

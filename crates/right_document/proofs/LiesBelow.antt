@@ -5,4 +5,5 @@ use Rattle.adducts.specs.Selected.{LiesBelow}
 
 pub less_from_below : (choice : Choice) (low high : ℕ) → LiesBelow choice low high → low < high
 less_from_below choice low high below =
-    below low high (record { not_below = omega arith; not_above = omega arith }) (record { not_below = omega arith; not_above = omega arith })
+    below low high (record { not_below = omega arith; not_above = omega arith })
+    (record { not_below = omega arith; not_above = omega arith })

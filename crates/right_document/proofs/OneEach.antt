@@ -1,7 +1,7 @@
 -- `OneEach`: how it grows, how many there are, and how items are handed out one after the other.
-use Rattle.std.proofs.Common.{◌≡◌, ◌++◌, ℕ, zero, suc, List, [], ◌∷◌, length, slice_get, Some, sym, ◌∙◌, ap, subst, refl, append_assoc, append-nil}
-use Rattle.std.proofs.lemmas.Option.{none-some, same_Some}
-use Rattle.std.specs.List.{AllByRecursion, flat_map}
+use Rattle.std.proofs.Common.{◌≡◌, ◌++◌, ℕ, suc, List, [], ◌∷◌, length, sym, ◌∙◌, ap, subst}
+use Rattle.std.proofs.Common.{refl, append_assoc, append-nil}
+use Rattle.std.specs.List.{flat_map}
 use Rattle.right_document.specs.OneEach.{OneEach}
 
 -- one more of each
@@ -10,7 +10,8 @@ push : {X Y : Type 0} (IsRight : X → Y → Type 0) (items : List X) (others : 
 push IsRight [] [] item other each is = (is, tt)
 push IsRight [] (one ∷ others) item other each is = absurd each
 push IsRight (first ∷ items) [] item other each is = absurd each
-push IsRight (first ∷ items) (one ∷ others) item other each is = (each.0, push IsRight items others item other each.1 is)
+push IsRight (first ∷ items) (one ∷ others) item other each is =
+    (each.0, push IsRight items others item other each.1 is)
 
 pub length-OneEach : {X Y : Type 0} (IsRight : X → Y → Type 0) (items : List X) (others : List Y)
     → OneEach IsRight items others → length others ≡ length items
@@ -18,21 +19,6 @@ length-OneEach IsRight [] [] each = refl
 length-OneEach IsRight [] (other ∷ others) each = absurd each
 length-OneEach IsRight (first ∷ items) [] each = absurd each
 length-OneEach IsRight (first ∷ items) (other ∷ others) each = ap suc (length-OneEach IsRight items others each.1)
-
--- where each of the others is right and has a fact of its own, all are right, and all have the fact
-pub OneEach-right : {X Y : Type 0} (IsRight : X → Y → Type 0) (Has : Y → Type 0) (items : List X) (others : List Y)
-    → OneEach (λ item other. IsRight item other × Has other) items others → OneEach IsRight items others
-OneEach-right IsRight Has [] [] each = tt
-OneEach-right IsRight Has [] (other ∷ others) each = absurd each
-OneEach-right IsRight Has (item ∷ items) [] each = absurd each
-OneEach-right IsRight Has (item ∷ items) (other ∷ others) each = (each.0.0, OneEach-right IsRight Has items others each.1)
-
-pub OneEach-has : {X Y : Type 0} (IsRight : X → Y → Type 0) (Has : Y → Type 0) (items : List X) (others : List Y)
-    → OneEach (λ item other. IsRight item other × Has other) items others → AllByRecursion Has others
-OneEach-has IsRight Has [] [] each = tt
-OneEach-has IsRight Has [] (other ∷ others) each = absurd each
-OneEach-has IsRight Has (item ∷ items) [] each = absurd each
-OneEach-has IsRight Has (item ∷ items) (other ∷ others) each = (each.0.1, OneEach-has IsRight Has items others each.1)
 
 -- what is told of others and of one more
 pub flat_map-push : {Y : Type 0} (told : Y → List ℕ) (others : List Y) (other : Y)
@@ -51,12 +37,14 @@ pub record HandedOut {X Y : Type 0} (IsRight : X → Y → Type 0) (all waiting 
 pub handed_none : {X Y : Type 0} (IsRight : X → Y → Type 0) (all : List X) → HandedOut IsRight all all []
 handed_none IsRight all = record { out = []; whole = refl; each = tt }
 
-pub handed_more : {X Y : Type 0} (IsRight : X → Y → Type 0) (all waiting rest : List X) (made : List Y) (item : X) (other : Y)
+pub handed_more : {X Y : Type 0} (IsRight : X → Y → Type 0) (all waiting rest : List X) (made : List Y) (item : X)
+    (other : Y)
     → HandedOut IsRight all waiting made → waiting ≡ item ∷ rest → IsRight item other
     → HandedOut IsRight all rest (made ++ other ∷ [])
 handed_more {X = X} IsRight all waiting rest made item other handed taken is = record {
   out = handed.out ++ item ∷ [];
-  whole = handed.whole ∙ ap (λ (later : List X). handed.out ++ later) taken ∙ sym (append_assoc handed.out (item ∷ []) rest);
+  whole = handed.whole ∙ ap (λ (later : List X). handed.out ++ later) taken
+      ∙ sym (append_assoc handed.out (item ∷ []) rest);
   each = push IsRight handed.out made item other handed.each is;
 }
 
@@ -68,17 +56,8 @@ handed_all {X = X} IsRight all waiting made handed none =
 
 -- what is told of what was made, and of one more
 pub told_more : {Y : Type 0} (told : Y → List ℕ) (made : List Y) (other : Y) (before now next : List ℕ)
-    → now ≡ before ++ flat_map told made → next ≡ now ++ told other → next ≡ before ++ flat_map told (made ++ other ∷ [])
+    → now ≡ before ++ flat_map told made → next ≡ now ++ told other
+    → next ≡ before ++ flat_map told (made ++ other ∷ [])
 told_more told made other before now next is more =
     more ∙ ap (λ (bytes : List ℕ). bytes ++ told other) is ∙ append_assoc before (flat_map told made) (told other)
     ∙ ap (λ (bytes : List ℕ). before ++ bytes) (sym (flat_map-push told made other))
-
--- the one at a place is right for the item at that place
-pub OneEach-at : {X Y : Type 0} (IsRight : X → Y → Type 0) (items : List X) (others : List Y) (place : ℕ) (item : X) (other : Y)
-    → OneEach IsRight items others → slice_get items place ≡ Some item → slice_get others place ≡ Some other → IsRight item other
-OneEach-at IsRight [] others place item other each is also = absurd (none-some item is)
-OneEach-at IsRight (first ∷ items) [] place item other each is also = absurd each
-OneEach-at IsRight (first ∷ items) (one ∷ others) zero item other each is also =
-    subst (IsRight item) (same_Some one other also) (subst (λ taken. IsRight taken one) (same_Some first item is) each.0)
-OneEach-at IsRight (first ∷ items) (one ∷ others) (suc place) item other each is also =
-    OneEach-at IsRight items others place item other each.1 is also

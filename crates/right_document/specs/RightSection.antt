@@ -39,7 +39,8 @@ SizeIsRight settings lists candidate (TooLarge vertices) =
 abbrev pub TreeIsRight : SolveSettingsValue → List FormulaListValue → List ℕ → Outcome → Type 0
 TreeIsRight settings lists candidate (Tree tree) =
     EntryIsRight (graph_of settings lists candidate) tree settings.budget
-    × IsBounded (graph_of settings lists candidate).graph (all_edges (graph_of settings lists candidate).graph) tree.upper
+    × IsBounded (graph_of settings lists candidate).graph (all_edges (graph_of settings lists candidate).graph)
+    tree.upper
 TreeIsRight settings lists candidate (TooLarge vertices) = ⊤
 
 -- what is found for a candidate

@@ -2,13 +2,13 @@
 //! documents are right.
 #![tactic(auto)]
 
-mod candidates;
+mod candidate_list;
 mod ending;
 mod laws;
 mod outline;
 mod settings;
 
-pub use candidates::{candidates, ion_error, is_formula};
+pub use candidate_list::{candidates, ion_error, is_formula};
 pub use ending::{ending_is_good, ending_of};
 pub use laws::a_spectrum_has_one_outline;
 pub use outline::{Outline, read_outline};

@@ -1,6 +1,7 @@
 //! What lists and trees are made under.
 ghost use Rattle.std.specs.Prelude.{◌≡◌, ◌≤◌, ◌∷◌, IfOk};
 ghost use Rattle.element_table.specs.Rule.{neutral_rule_of};
+ghost use Rattle.profile.specs.Profile.{greatest_peaks};
 ghost use Rattle.right_document.specs.RunSettings.{run_settings_of};
 ghost use Rattle.right_document.specs.SolveSettings.{solve_settings_of};
 ghost use Rattle.right_document.specs.SettingsOf.{solve_settings_value_of};
@@ -21,8 +22,8 @@ pub struct RunSettings {
     pub sieve: Sieve,
 }
 
-/// What trees are found and checked under: what lists are made under, the rules that a candidate has to pass, the tables of
-/// scores, and the budget of splits.
+/// What trees are found and checked under: what lists are made under, the rules that a candidate has to pass, the
+/// tables of scores, and the budget of splits.
 #[derive(Drop)]
 pub struct SolveSettings<'a> {
     pub listing: RunSettings,
@@ -41,7 +42,7 @@ pub fn solve_settings(
     requires fragments { sieve.rules.items ≡ (run_settings_of profile.now adduct).rules }
     requires candidates { candidate_rules.items ≡ neutral_rule_of ∷ profile.now.neutral_rules }
     ensures value { solve_settings_value_of result ≡ solve_settings_of profile.now adduct }
-    ensures peaks { result.listing.choice.peaks ≤ 12 }
+    ensures peaks { result.listing.choice.peaks ≤ greatest_peaks }
 {
     SolveSettings {
         listing: RunSettings {

@@ -1,25 +1,25 @@
--- What the rows of a table and what is found among words stand for.
+-- What the options of a table and what is found among words stand for.
 use Rattle.std.specs.Prelude.{◌≡◌, ℕ, List, [], ◌∷◌, map, Option, Some, None, is_some, Bool, if◌then◌else◌}
 use Rattle.std.specs.Option.{option_copied}
 use Rattle.std.specs.Str.{bytes_eq}
 use Rattle.order_words.specs.declared.words.Need.{Need as NeedRead}
 use Rattle.order_words.specs.declared.words.Need.TheVariants as Read
-use Rattle.order_words.specs.declared.words.OptionRow.{OptionRow as RowRead}
+use Rattle.order_words.specs.declared.words.KnownOption.{KnownOption as KnownRead}
 use Rattle.order_words.specs.declared.words.NextOption.{NextOption}
 use Rattle.order_words.specs.declared.words.Found.{Found}
 use Rattle.order_words.specs.declared.words.Found.TheVariants.{Nothing, Bare, Value, Twice}
-use Rattle.order_words.specs.Words.{Given, Need, OptionRow, required, optional, flag, form_of}
+use Rattle.order_words.specs.Words.{Given, Need, KnownOption, required, optional, flag, formed_options}
 
 abbrev pub need_of : NeedRead → Need
 need_of Read.Required = required
 need_of Read.Optional = optional
 need_of Read.Flag = flag
 
-abbrev pub row_of : RowRead → OptionRow
-row_of row = record { name = row.name.now; need = need_of row.need }
+abbrev pub known_of : KnownRead → KnownOption
+known_of known = record { name = known.name.now; need = need_of known.need }
 
-abbrev pub rows_of : List RowRead → List OptionRow
-rows_of rows = map row_of rows
+abbrev pub known_in : List KnownRead → List KnownOption
+known_in table = map known_of table
 
 -- the option that a step over the words finds
 abbrev pub given_of : NextOption → Given
@@ -30,8 +30,8 @@ abbrev pub value_under : List ℕ → Given → List (Option (List ℕ))
 value_under name option = if bytes_eq option.name name then option.value ∷ [] else []
 
 -- the words are of the form of these options
-abbrev pub is_of_form : List OptionRow → List (List ℕ) → Bool
-is_of_form table words = is_some (form_of table words)
+abbrev pub is_of_form : List KnownOption → List (List ℕ) → Bool
+is_of_form table words = is_some (formed_options table words)
 
 -- what was found of an option: nothing, that it stands alone, its value, or what stands first of several
 abbrev pub IsFound : Found → List (Option (List ℕ)) → Type 0

@@ -2,7 +2,7 @@ use Rattle.std.proofs.Common.{Option, subst, sym}
 use Rattle.mgf_reader.specs.declared.fault.MgfFault.{MgfFault}
 use Rattle.tree_document.specs.Document.{IsGoodLine, ending_line}
 use Rattle.right_document.specs.Ending.{ending_of}
-use Rattle.right_document.proofs.GoodSections.{refusal_is_good}
+use Rattle.right_document.proofs.GoodReasons.{refusal_is_good}
 use Rattle.right_document.proofs.ending.ending_is_good.Goals as goal
 
 pub returns-in-Some : goal.returns-in-Some

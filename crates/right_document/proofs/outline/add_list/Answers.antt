@@ -12,7 +12,8 @@ returns-in_ok-push-in-Ok-clause-told g c =
     let list : c.in-Ok.formulas.items ≡ formulas_at settings c.args.mz =
     c.in-Ok.ensures.filter ∙ ap (λ window. listed_of window settings.limits settings.rules) c.window.ensures
     in
-    let few : length (formulas_at settings c.args.mz) ≤ greatest_list = subst (λ (formulas : List (List ℕ)). length formulas ≤ greatest_list) list c.in-Ok.ensures.few in
+    let few : length (formulas_at settings c.args.mz) ≤ greatest_list =
+    subst (λ (formulas : List (List ℕ)). length formulas ≤ greatest_list) list c.in-Ok.ensures.few in
     let not_more : nat_lt greatest_list (length (formulas_at settings c.args.mz)) ≡ false = grind (arith, nat_tests) in
     sym (ap not not_more)
 
@@ -22,4 +23,6 @@ returns-in_ok-push-in-Ok-clause-lists g c is =
     let list : c.in-Ok.formulas.items ≡ formulas_at settings c.args.mz =
     c.in-Ok.ensures.filter ∙ ap (λ window. listed_of window settings.limits settings.rules) c.window.ensures
     in
-    c.in_ok-push-in-Ok.ensures.items ∙ ap (λ (formulas : List (List ℕ)). c.args.lists.now.items ++ (record { mz = c.args.mz; intensity = c.args.intensity; formulas = formulas }) ∷ []) (c.of.ensures ∙ list)
+    c.in_ok-push-in-Ok.ensures.items
+    ∙ ap (λ (formulas : List (List ℕ)). c.args.lists.now.items
+    ++ (record { mz = c.args.mz; intensity = c.args.intensity; formulas = formulas }) ∷ []) (c.of.ensures ∙ list)

@@ -6,7 +6,7 @@ use Rattle.loss_graph.specs.Lists.{IsList}
 use Rattle.right_document.specs.Outline.{lists_of}
 use Rattle.right_document.specs.SettingsOf.{settings_value_of}
 use Rattle.right_document.proofs.AreOwnLists.{own_lists}
-use Rattle.right_document.proofs.GoodSections.{too_many_is_good}
+use Rattle.right_document.proofs.GoodReasons.{too_many_is_good}
 use Rattle.right_document.proofs.outline.explain.Goals as goal
 
 pub loop-peak-preserved : goal.loop-peak-preserved
@@ -16,14 +16,17 @@ loop-peak-preserved g c =
       told = grind (arith, common_steps);
       own = grind (arith, common_steps);
       each = All-same (IsList c.args.settings.now.choice) _ _ (c.add_list-in-loop-peak.ensures.lists added)
-          (All-push (IsList c.args.settings.now.choice) _ _ c.loop-peak.invariant.each (c.add_list-in-loop-peak.ensures.list added));
+          (All-push (IsList c.args.settings.now.choice) _ _ c.loop-peak.invariant.each
+          (c.add_list-in-loop-peak.ensures.list added));
     }
 
 pub returns-clause-lists : goal.returns-clause-lists
 returns-clause-lists g c =
-    own_lists (settings_value_of c.args.settings.now) c.args.precursor c.requires.apart.0 c.args.selected.now c.loop-peak.lists.items
+    own_lists (settings_value_of c.args.settings.now) c.args.precursor c.requires.apart.0 c.args.selected.now
+    c.loop-peak.lists.items
     (c.loop-peak.invariant.own
-    ∙ ap (lists_of (settings_value_of c.args.settings.now) c.args.precursor) (take_all c.loop-peak.peak-index c.args.selected.now (omega arith)))
+    ∙ ap (lists_of (settings_value_of c.args.settings.now) c.args.precursor)
+    (take_all c.loop-peak.peak-index c.args.selected.now (omega arith)))
     c.loop-peak.invariant.each c.requires.apart.1
 
 pub returns-then-not-branch-clause-reason : goal.returns-then-not-branch-clause-reason

@@ -8,8 +8,10 @@ use Rattle.right_document.proofs.outline.explain.Given as goal
 
 abbrev pub invariant-loop-peak : goal.invariant-loop-peak
 invariant-loop-peak g l = record {
-  told : outline_with (find (has_too_many (settings_value_of l.settings)) (map (λ peak. peak.mz) (drop l.peak-index l.selected)))
-      (l.lists.items ++ map (λ peak. list_of_ion (settings_value_of l.settings) peak.mz peak.intensity) (drop l.peak-index l.selected))
+  told : outline_with (find (has_too_many (settings_value_of l.settings))
+      (map (λ peak. peak.mz) (drop l.peak-index l.selected)))
+      (l.lists.items ++ map (λ peak. list_of_ion (settings_value_of l.settings) peak.mz peak.intensity)
+      (drop l.peak-index l.selected))
       ≡ explained (settings_value_of l.settings) l.precursor l.selected;
   own : l.lists.items ≡ lists_of (settings_value_of l.settings) l.precursor (take l.peak-index l.selected);
   each : All (IsList l.settings.choice) l.lists.items;

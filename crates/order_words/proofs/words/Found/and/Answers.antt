@@ -15,5 +15,9 @@ returns-in-Value-default c = λ values found.
 
 pub returns-in-Twice-default : goal.returns-in-Twice-default
 returns-in-Twice-default c = λ values found.
-    let is = subst (λ f. IsFound f values) c.in-Twice-default.is-0 found in
-    (is.0, is.1 ++ option_copied c.args.value ∷ [], ap (λ (v : List (Option (List ℕ))). v ++ option_copied c.args.value ∷ []) is.2)
+    let is = subst (λ f. IsFound f values) c.in-Twice-default.is-0 found in (
+      is.0,
+      is.1 ++ option_copied c.args.value ∷ [],
+      ap
+          (λ (v : List (Option (List ℕ))). v ++ option_copied c.args.value ∷ []) is.2,
+    )

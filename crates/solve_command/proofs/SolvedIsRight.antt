@@ -1,11 +1,12 @@
 -- `SolvedIsRight`: entries of a spectrum's candidates, ranked.
-use Rattle.std.proofs.Common.{◌≡◌, ◌≢◌, ◌∙◌, ◌<◌, ℕ, List, length, map, get_or, sym, ap, subst}
+use Rattle.std.proofs.Common.{◌≡◌, ◌≢◌, ◌∙◌, ◌<◌, ℕ, List, length, map, get_or, sym, ap, subst, [], ◌∷◌, zero, suc}
+use Rattle.std.proofs.Common.{arith}
 use Rattle.std.specs.List.{All, AllPairs, Contains}
 use Rattle.std.specs.List.Sorted.{IsPermutation}
 use Rattle.std.specs.Str.{bytes_eq}
 use Rattle.std.specs.declared.cmp.Ordering.TheVariants.{Less}
 use Rattle.std.proofs.lemmas.Bool.Decides.{same_from_decides}
-use Rattle.std.proofs.lemmas.List.{get_or_default}
+use Rattle.std.proofs.lemmas.List.{get_or_default, get_or-map, length-map}
 use Rattle.std.proofs.lemmas.List.Sorted.{All-permutation, IsPermutation-map}
 use Rattle.std.proofs.lemmas.Map.Keys.{IsDistinct-IsPermutation}
 use Rattle.std.proofs.lemmas.Map.Made.{AllPairs-from_IsDistinct, IsDistinct-from_AllPairs}
@@ -19,49 +20,55 @@ use Rattle.right_document.specs.Candidates.{candidates_of, ion_of}
 use Rattle.right_document.specs.RightSection.{IsRightEntry, SolvedIsRight}
 use Rattle.right_document.specs.SolveSettings.{SolveSettingsValue}
 use Rattle.right_document.specs.Outlines.{AreOwnLists}
-use Rattle.right_document.proofs.AllPairs.{AllPairs-from_map}
-use Rattle.right_document.proofs.CandidatesOf.{candidates_apart, ions_listed}
+use Rattle.std.proofs.lemmas.List.Elements.{All-map}
+use Rattle.right_document.proofs.CandidatesOf.{IsBelow, candidates_rise, rising_apart}
+
+-- what holds of every two in turn that are made of those of a list holds of these
+AllPairs-from_map : {X Y : Type 0} (R : Y → Y → Type 0) (f : X → Y) (xs : List X) → AllPairs R (map f xs)
+    → AllPairs (λ one later. R (f one) (f later)) xs
+AllPairs-from_map R f xs pairs i j none earlier within =
+    let made : R (get_or (map f xs) i (f none)) (get_or (map f xs) j (f none)) =
+    pairs i j (f none) earlier (omega (arith, length-map xs f))
+    in
+    subst (R (f (get_or xs i none))) (get_or-map f xs j none (f none) within)
+    (subst (λ one. R one (get_or (map f xs) j (f none))) (get_or-map f xs i none (f none) (omega arith)) made)
+
+-- the candidates of a list whose formulas rise differ
+candidates_apart : (settings : SolveSettingsValue) (formulas : List (List ℕ)) → AllPairs IsBelow formulas
+    → AllPairs (λ one later. one ≢ later) (candidates_of settings formulas)
+candidates_apart settings formulas rising =
+    rising_apart (candidates_of settings formulas) (candidates_rise settings formulas rising)
 
 abbrev candidate_of : Entry → List ℕ
 candidate_of entry = entry.candidate
 
 -- formulas that differ stay so in another order
-apart_moved : (formulas moved : List (List ℕ)) → AllPairs (λ one later. one ≢ later) formulas → IsPermutation formulas moved
+apart_moved : (formulas moved : List (List ℕ)) → AllPairs (λ one later. one ≢ later) formulas
+    → IsPermutation formulas moved
     → AllPairs (λ one later. one ≢ later) moved
 apart_moved formulas moved apart same =
     AllPairs-from_IsDistinct bytes_eq-Decides moved
-    (IsDistinct-IsPermutation bytes_eq flips formulas moved same (IsDistinct-from_AllPairs bytes_eq-Decides formulas apart))
+    (IsDistinct-IsPermutation bytes_eq flips formulas moved same
+    (IsDistinct-from_AllPairs bytes_eq-Decides formulas apart))
   where
     flips : (x y : List ℕ) → bytes_eq x y ≡ bytes_eq y x
     flips x y =
         let turned = bytes_eq-Decides y x in
-        same_from_decides (bytes_eq x y) (bytes_eq y x) (bytes_eq-Decides x y) ((λ is. sym (turned.0 is)), (λ is. turned.1 (sym is)))
+        same_from_decides (bytes_eq x y) (bytes_eq y x) (bytes_eq-Decides x y)
+        ((λ is. sym (turned.0 is)), (λ is. turned.1 (sym is)))
 
-module _ (settings : SolveSettingsValue) (lists : List FormulaListValue) (own : AreOwnLists settings.listing.choice lists) where
+module _ (settings : SolveSettingsValue) (lists : List FormulaListValue)
+    (own : AreOwnLists settings.listing.choice lists) where
   abbrev formulas : List (List ℕ)
   formulas = (list_at lists 0).formulas
-
-  -- candidates that were made of the first list, as it was read
-  pub candidates_of_read : (read : FormulaListValue) (told : List (List ℕ)) (candidates : List (List ℕ))
-      → read ≡ get_or lists 0 read → told ≡ read.formulas → candidates ≡ candidates_of settings told
-      → candidates ≡ candidates_of settings formulas
-  candidates_of_read read told candidates is are made =
-      made ∙ ap (candidates_of settings)
-      (are ∙ ap (λ (list : FormulaListValue). list.formulas) (is ∙ get_or_default lists 0 read _ own.some))
-
-  -- of each candidate a graph can be built
-  pub graphs_stand : (candidates : List (List ℕ)) → candidates ≡ candidates_of settings formulas → length lists < greatest_lists
-      → All (λ candidate. AreLists settings.listing.choice (ion_of settings candidate) lists) candidates
-  graphs_stand candidates are few k d within =
-      own.roots few (ion_of settings (get_or candidates k d))
-      (subst (All (λ candidate. Contains formulas (ion_of settings candidate))) (sym are) (ions_listed settings formulas) k d within)
 
   -- the entries of the candidates, in the order of their ranks
   pub solved_is_right : (candidates : List (List ℕ)) (made : List Entry) (solved : Solved)
       → ((entries : List Entry) → AreRanked entries → AllPairs (λ one later. one.candidate ≢ later.candidate) entries
       → AllPairs (λ one later. rank_cmp one later ≡ Less) entries)
       → candidates ≡ candidates_of settings formulas → map candidate_of made ≡ candidates
-      → All (IsRightEntry settings lists) made → solved.lists ≡ lists → IsPermutation made solved.entries → AreRanked solved.entries
+      → All (IsRightEntry settings lists) made → solved.lists ≡ lists → IsPermutation made solved.entries
+      → AreRanked solved.entries
       → SolvedIsRight settings lists solved
   solved_is_right candidates made solved rise are each right same_lists moved ranked = record {
     own_lists = same_lists;
