@@ -4,14 +4,19 @@ use Rattle.frag_io.specs.declared.desk.Slot.{Slot}
 use Rattle.frag_io.specs.declared.desk.Slot.TheVariants.{Spectra, Profile, CertIn, Report, CertOut}
 use Rattle.frag_io.specs.DeskState.{DeskState}
 use Rattle.frag_io.specs.Slot.{IsRead}
+use Rattle.tree_document.specs.Reading.{greatest_document}
 use Rattle.run_plan.specs.Plan.{Step, name_in}
 use Rattle.run_plan.specs.Class.{Class, too_long}
 
+-- How many bytes a text of spectra or a profile may have.
+abbrev pub greatest_text : ℕ
+greatest_text = 67108864
+
 -- How many bytes may be read from a slot; nothing is read from a written one.
 abbrev pub greatest_text_of : Slot → ℕ
-greatest_text_of Spectra = 67108864
-greatest_text_of Profile = 67108864
-greatest_text_of CertIn = 268435456
+greatest_text_of Spectra = greatest_text
+greatest_text_of Profile = greatest_text
+greatest_text_of CertIn = greatest_document
 greatest_text_of Report = 0
 greatest_text_of CertOut = 0
 

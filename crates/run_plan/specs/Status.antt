@@ -48,7 +48,6 @@ document_refusal_text (cert.BadLine line) = codes "line " ++ decimal line ++ cod
 document_refusal_text (cert.TooBig line) = codes "line " ++ decimal line ++ codes ": too big"
 document_refusal_text (cert.TooDeep line) = codes "line " ++ decimal line ++ codes ": too deep"
 document_refusal_text cert.Truncated = codes "truncated"
-document_refusal_text cert.OutOfMemory = codes "no memory"
 
 -- the part of a section that differs; where the tree of an entry is wrong is not told
 abbrev pub part_text : RejectPart → List ℕ

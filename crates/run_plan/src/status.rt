@@ -147,7 +147,6 @@ fn document_refusal(alloc: Global, fault: CertFault) -> Result<Vec<u8>, AllocErr
         CertFault::TooBig(number) => numbered(alloc, "document: line ", number, ": too big\n"),
         CertFault::TooDeep(number) => numbered(alloc, "document: line ", number, ": too deep\n"),
         CertFault::Truncated => line(alloc, "document: truncated", ""),
-        CertFault::OutOfMemory => line(alloc, "document: no memory", ""),
     }
 }
 
