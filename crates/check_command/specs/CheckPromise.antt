@@ -4,8 +4,6 @@ use Rattle.frag_io.specs.declared.desk.Slot.{Slot}
 use Rattle.frag_io.specs.declared.desk.Slot.TheVariants.{Report}
 use Rattle.frag_io.specs.DeskState.{DeskState}
 use Rattle.mgf_reader.specs.declared.fault.MgfFault.{MgfFault}
-use Rattle.tree_document.specs.declared.fault.CertFault.{CertFault}
-use Rattle.tree_document.specs.declared.fault.CertFault.TheVariants.{OutOfMemory}
 use Rattle.run_plan.specs.Leaves.{Meaning}
 use Rattle.order_words.specs.Orders.{DocumentNames}
 use Rattle.run_plan.specs.ProfilePromise.{profile_outcome}
@@ -48,10 +46,10 @@ check_meaning settings text bytes = record {
   part = λ written. IfSome (written Report) (IsAcceptedPart settings text bytes);
 }
 
--- The promise of the command: it refuses a document never for want of memory; and it owes its answer, under a profile
--- that is not refused, to a text and to the bytes of a document that the names give.
-pub record CheckPromise (names : DocumentNames) (before now : DeskState) (status : Status) : Type 0 where
-  pub refusal : (fault : CertFault) → status ≡ DocumentRefused fault → fault ≢ OutOfMemory
-  pub texts : (profile : ProfileValue) → profile_outcome before.gives names.profile ≡ Some (Ok profile)
-      → IfSome (before.gives names.spectra) (λ text. IfSome (before.gives names.document) (λ bytes.
-      OwesText (check_meaning (solve_settings_of profile names.adduct) text bytes) text now status))
+-- The promise of the command: under a profile that is not refused it owes its answer to a text and to the bytes of a
+-- document that the names give.
+abbrev pub CheckPromise : DocumentNames → DeskState → DeskState → Status → Type 0
+CheckPromise names before now status =
+    (profile : ProfileValue) → profile_outcome before.gives names.profile ≡ Some (Ok profile)
+    → IfSome (before.gives names.spectra) (λ text. IfSome (before.gives names.document) (λ bytes.
+    OwesText (check_meaning (solve_settings_of profile names.adduct) text bytes) text now status))

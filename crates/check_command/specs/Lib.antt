@@ -1,3 +1,4 @@
+pub mod CheckPlan
 pub mod CheckPlaces
 pub mod CheckOutcome
 pub mod CheckPromise

@@ -3,30 +3,29 @@ ghost use Rattle.std.specs.Prelude.{◌≡◌, ◌≢◌, ◌≤◌, ◌++◌, �
 ghost use Rattle.frag_io.specs.declared.desk.Slot.{Slot};
 ghost use Rattle.frag_io.specs.declared.desk.Slot.TheVariants.{Spectra, Report, CertOut};
 ghost use Rattle.frag_io.specs.DeskState.{DeskState};
-ghost use Rattle.run_plan.specs.Begins.{Begin};
 ghost use Rattle.run_plan.specs.Causes.{IsUnwritten};
 ghost use Rattle.run_plan.specs.Class.{class_of, IsOfProfile};
-ghost use Rattle.run_plan.specs.Limits.{AreReadWhole, greatest_text_of};
-ghost use Rattle.order_words.specs.Orders.{begins_of, check, read_begin, text_begins};
+ghost use Rattle.run_plan.specs.Limits.{greatest_text_of};
+ghost use Rattle.run_plan.specs.Plan.{Step, report_steps};
 ghost use Rattle.run_plan.specs.ProfilePromise.{OnlyProfile, ProfilePromise};
 ghost use Rattle.right_document.specs.SolveSettings.{SolveSettingsValue, solve_settings_of};
 ghost use Rattle.run_plan.specs.TextPromise.{OwesText};
+ghost use Rattle.check_command.specs.CheckPlan.{check_plan, check_steps_of};
 ghost use Rattle.check_command.specs.CheckPromise as spec;
 ghost use Rattle.check_command.specs.CheckOutcome.{IsAccepted};
 ghost use Rattle.check_command.specs.CheckPromise.{CheckPromise, check_meaning};
-ghost use Rattle.check_command.specs.inside.NoMemory.{IsNoMemory};
 ghost use Rattle.order_words.specs.NamesOf.{document_names_of};
-ghost use Rattle.run_plan.specs.Running.{Ends, IsUnfinished, Runs, status_of};
+ghost use Rattle.run_plan.specs.Running.{Ends, HasDone, IsUnfinished, status_of};
 ghost use Rattle.right_document.specs.SettingsOf.{solve_settings_value_of};
 
 use crate::document::{Checked, check_text};
-use order_words::DocumentNames;
-use run_plan::{DocumentSlot, Status, read_spectra, read_text, take_profile, write_report};
-use right_document::{SolveSettings, candidate_rules_of, fragment_rules_of, solve_settings};
 use element_table::Formula;
 use frag_io::{Desk, Slot};
 use mgf_reader::MgfFault;
+use order_words::DocumentNames;
 use profile::Profile;
+use right_document::{SolveSettings, candidate_rules_of, fragment_rules_of, solve_settings};
+use run_plan::{DocumentSlot, Status, read_spectra, read_text, take_profile, write_report};
 use std::alloc::{AllocError, Global};
 use valence_filter::{Sieve, all_hold};
 
@@ -34,7 +33,7 @@ use valence_filter::{Sieve, all_hold};
 /// the adduct.
 pub fn check<D: Desk>(alloc: Global, names: &DocumentNames, desk: &mut D) -> Status
     requires { (slot : Slot) → (D.state desk.old).begun slot ≡ false }
-    ensures ends { Ends (begins_of (check (document_names_of names.now))) (D.state desk.old) (D.state desk.new) result }
+    ensures ends { Ends (check_plan (document_names_of names.now)) (D.state desk.old) (D.state desk.new) result }
     ensures profile { ProfilePromise (document_names_of names.now).profile (D.state desk.old) (D.state desk.new)
         result }
     ensures promise { CheckPromise (document_names_of names.now) (D.state desk.old) (D.state desk.new) result }
@@ -60,15 +59,13 @@ fn check_under<D: Desk>(
     requires only { OnlyProfile (D.state desk.old) }
     requires unfinished { IsUnfinished (D.state desk.old) }
     requires unwritten { IsUnwritten (D.state desk.old) }
-    ensures ends { (done : List Begin) (before : DeskState) → Runs done before (D.state desk.old)
-        → AreReadWhole done before (D.state desk.old)
-        → Ends (done ++ text_begins names.now.spectra.now (Some (read_begin names.now.document.now))) before
-        (D.state desk.new) (status_of result) }
+    ensures ends { (done : List Step) (before : DeskState) → HasDone done before (D.state desk.old)
+        → Ends (done ++ check_steps_of names.now.spectra.now names.now.document.now) before (D.state desk.new)
+        (status_of result) }
     ensures texts { IfSome ((D.state desk.old).gives names.now.spectra.now) (λ text.
         IfSome ((D.state desk.old).gives names.now.document.now) (λ bytes.
         OwesText (check_meaning (solve_settings_of profile.now names.now.adduct) text bytes) text (D.state desk.new)
         (status_of result))) }
-    ensures refusal { IsNoMemory (status_of result) → ⊥ }
     ensures own { IsOfProfile (class_of (status_of result)) → ⊥ }
     ensures an_order { status_of result ≢ Status.Words }
 {
@@ -99,15 +96,12 @@ fn check_steps<D: Desk>(
     requires only { OnlyProfile (D.state desk.old) }
     requires unfinished { IsUnfinished (D.state desk.old) }
     requires unwritten { IsUnwritten (D.state desk.old) }
-    ensures ends { (done : List Begin) (before : DeskState) → Runs done before (D.state desk.old)
-        → AreReadWhole done before (D.state desk.old)
-        → Ends (done ++ text_begins name.now (Some (read_begin document.now))) before (D.state desk.new)
-        (status_of result) }
+    ensures ends { (done : List Step) (before : DeskState) → HasDone done before (D.state desk.old)
+        → Ends (done ++ check_steps_of name.now document.now) before (D.state desk.new) (status_of result) }
     ensures texts { IfSome ((D.state desk.old).gives name.now) (λ text.
         IfSome ((D.state desk.old).gives document.now) (λ bytes.
         OwesText (check_meaning (solve_settings_value_of settings.now) text bytes) text (D.state desk.new)
         (status_of result))) }
-    ensures refusal { IsNoMemory (status_of result) → ⊥ }
     ensures own { IsOfProfile (class_of (status_of result)) → ⊥ }
     ensures an_order { status_of result ≢ Status.Words }
 {
@@ -136,12 +130,11 @@ fn tell_accepted<D: Desk>(
     requires alone { (D.state desk.old).begun CertOut ≡ false }
     requires unfinished { IsUnfinished (D.state desk.old) }
     requires unwritten { IsUnwritten (D.state desk.old) }
-    ensures ends { (order : List Begin) (before : DeskState) → Runs order before (D.state desk.old)
-        → AreReadWhole order before (D.state desk.old) → Ends order before (D.state desk.new) (status_of result) }
+    ensures ends { (done : List Step) (before : DeskState) → HasDone done before (D.state desk.old)
+        → Ends (done ++ report_steps) before (D.state desk.new) (status_of result) }
     ensures texts { (settings : SolveSettingsValue) (text bytes : List ℕ) → length text ≤ greatest_text_of Spectra
         → IsAccepted settings text bytes count fault
         → OwesText (check_meaning settings text bytes) text (D.state desk.new) (status_of result) }
-    ensures refusal { IsNoMemory (status_of result) → ⊥ }
     ensures own { IsOfProfile (class_of (status_of result)) → ⊥ }
     ensures an_order { status_of result ≢ Status.Words }
 {

@@ -9,14 +9,14 @@ ghost use Rattle.right_document.specs.Candidates.{ion_of};
 ghost use Rattle.check_command.specs.inside.CheckAnswers.{AreTreesAnswer, IsFinding, IsFindingOver, IsSizeFinding};
 ghost use Rattle.right_document.specs.SettingsOf.{solve_settings_value_of};
 
-use run_plan::RejectPart;
-use right_document::SolveSettings;
-use entry_checker::{EntryVerdict, check_entry};
-use tree_entry::EntryPlace;
 use element_table::FormulaList;
+use entry_checker::{EntryVerdict, check_entry};
 use loss_graph::{GraphFault, LossGraph, build};
+use right_document::SolveSettings;
+use run_plan::RejectPart;
 use std::alloc::{AllocError, Global};
 use tree_document::{Entry, Outcome};
+use tree_entry::EntryPlace;
 
 /// What is found of an entry.
 #[derive(Clone, Copy)]

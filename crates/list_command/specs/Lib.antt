@@ -1,3 +1,4 @@
+pub mod ListPlan
 pub mod ReportForm
 pub mod Sections
 pub mod ListPromise

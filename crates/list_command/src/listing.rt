@@ -3,34 +3,33 @@
 ghost use Rattle.std.specs.Prelude.{◌≡◌, ◌≢◌, ◌++◌, List, None, false, IfSome};
 ghost use Rattle.frag_io.specs.declared.desk.Slot.{Slot};
 ghost use Rattle.frag_io.specs.DeskState.{DeskState};
-ghost use Rattle.run_plan.specs.Begins.{Begin};
 ghost use Rattle.run_plan.specs.Causes.{IsUnwritten};
 ghost use Rattle.run_plan.specs.Class.{class_of, IsOfProfile};
-ghost use Rattle.run_plan.specs.Limits.{AreReadWhole};
-ghost use Rattle.order_words.specs.Orders.{begins_of, list, text_begins};
+ghost use Rattle.run_plan.specs.Plan.{Step, report_steps, text_steps};
 ghost use Rattle.run_plan.specs.ProfilePromise.{OnlyProfile, ProfilePromise};
 ghost use Rattle.right_document.specs.RunSettings.{run_settings_of};
 ghost use Rattle.run_plan.specs.TextPromise.{OwesText};
 ghost use Rattle.order_words.specs.NamesOf.{names_of};
-ghost use Rattle.run_plan.specs.Running.{Ends, IsUnfinished, Runs, status_of};
+ghost use Rattle.run_plan.specs.Running.{Ends, HasDone, IsUnfinished, status_of};
 ghost use Rattle.right_document.specs.SettingsOf.{settings_value_of};
+ghost use Rattle.list_command.specs.ListPlan.{list_plan};
 ghost use Rattle.list_command.specs.ListPromise.{ListPromise, list_meaning};
 
 use crate::report::report_of;
-use order_words::ListNames;
-use run_plan::{Status, read_spectra, take_profile, write_report};
-use right_document::{RunSettings, choice_of, fragment_rules_of};
 use adducts::Adduct;
 use element_table::Formula;
 use frag_io::Desk;
+use order_words::ListNames;
 use profile::Profile;
+use right_document::{RunSettings, fragment_rules_of, run_settings};
+use run_plan::{Status, read_spectra, take_profile, write_report};
 use std::alloc::Global;
 use valence_filter::{Sieve, all_hold};
 
 /// Lists the formulas of the text that a name gives, under the profile that is named, for ions of the adduct.
 pub fn list<D: Desk>(alloc: Global, names: &ListNames, desk: &mut D) -> Status
     requires { (slot : Slot) → (D.state desk.old).begun slot ≡ false }
-    ensures ends { Ends (begins_of (list (names_of names.now))) (D.state desk.old) (D.state desk.new) result }
+    ensures ends { Ends (list_plan (names_of names.now)) (D.state desk.old) (D.state desk.new) result }
     ensures profile { ProfilePromise (names_of names.now).profile (D.state desk.old) (D.state desk.new) result }
     ensures promise { ListPromise (names_of names.now) (D.state desk.old) (D.state desk.new) result }
     ensures an_order { result ≢ Status.Words }
@@ -56,9 +55,8 @@ fn list_under<D: Desk>(
     requires only { OnlyProfile (D.state desk.old) }
     requires unfinished { IsUnfinished (D.state desk.old) }
     requires unwritten { IsUnwritten (D.state desk.old) }
-    ensures ends { (done : List Begin) (before : DeskState) → Runs done before (D.state desk.old)
-        → AreReadWhole done before (D.state desk.old)
-        → Ends (done ++ text_begins name.now None) before (D.state desk.new) (status_of result) }
+    ensures ends { (done : List Step) (before : DeskState) → HasDone done before (D.state desk.old)
+        → Ends (done ++ (text_steps name.now None ++ report_steps)) before (D.state desk.new) (status_of result) }
     ensures text { IfSome ((D.state desk.old).gives name.now) (λ text.
         OwesText (list_meaning (run_settings_of profile.now adduct) text) text (D.state desk.new) (status_of result)) }
     ensures own { IsOfProfile (class_of (status_of result)) → ⊥ }
@@ -69,11 +67,7 @@ fn list_under<D: Desk>(
     let Ok(test) = Box::new(alloc, move |formula: &Formula| all_hold(&kept, formula)) else {
         return Err(Status::Memory);
     };
-    let settings = RunSettings {
-        choice: choice_of(profile, adduct),
-        limits: profile.limits,
-        sieve: Sieve::new(rules, test),
-    };
+    let settings = run_settings(profile, adduct, Sieve::new(rules, test));
     list_steps(alloc, name, &settings, desk)
 }
 
@@ -87,9 +81,8 @@ fn list_steps<D: Desk>(
     requires only { OnlyProfile (D.state desk.old) }
     requires unfinished { IsUnfinished (D.state desk.old) }
     requires unwritten { IsUnwritten (D.state desk.old) }
-    ensures ends { (done : List Begin) (before : DeskState) → Runs done before (D.state desk.old)
-        → AreReadWhole done before (D.state desk.old)
-        → Ends (done ++ text_begins name.now None) before (D.state desk.new) (status_of result) }
+    ensures ends { (done : List Step) (before : DeskState) → HasDone done before (D.state desk.old)
+        → Ends (done ++ (text_steps name.now None ++ report_steps)) before (D.state desk.new) (status_of result) }
     ensures text { IfSome ((D.state desk.old).gives name.now) (λ text.
         OwesText (list_meaning (settings_value_of settings.now) text) text (D.state desk.new) (status_of result)) }
     ensures own { IsOfProfile (class_of (status_of result)) → ⊥ }

@@ -10,9 +10,9 @@ ghost use Rattle.right_document.specs.Outlined.{IsOutlined, Outlined};
 ghost use Rattle.list_command.specs.Sections.{IsReport};
 
 use crate::section::{push_ending, push_section};
-use run_plan::read_all;
-use right_document::RunSettings;
 use mgf_reader::{MgfFault, Reader};
+use right_document::RunSettings;
+use run_plan::read_all;
 use std::alloc::{AllocError, Global};
 
 /// The report of a text, and the line that refused it, where there is one.

@@ -6,8 +6,8 @@ ghost use Rattle.right_document.specs.SettingsOf.{settings_value_of};
 ghost use Rattle.list_command.specs.ReportForm.{ending_text, outline_lines, section_text};
 ghost use Rattle.right_document.specs.Outlined.{IsOutlined, Outlined};
 
-use right_document::{Outline, RunSettings, ending_of, read_outline};
 use mgf_reader::{MgfFault, Spectrum};
+use right_document::{Outline, RunSettings, ending_of, read_outline};
 use std::alloc::{AllocError, Global};
 use tree_document::{push_done, push_lists, push_skip, push_spectrum, write_ending};
 

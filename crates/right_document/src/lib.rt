@@ -13,5 +13,5 @@ pub use ending::{ending_is_good, ending_of};
 pub use laws::a_spectrum_has_one_outline;
 pub use outline::{Outline, read_outline};
 pub use settings::{
-    RunSettings, SolveSettings, candidate_rules_of, choice_of, fragment_rules_of, solve_settings,
+    RunSettings, SolveSettings, candidate_rules_of, fragment_rules_of, run_settings, solve_settings,
 };

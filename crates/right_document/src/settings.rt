@@ -4,7 +4,7 @@ ghost use Rattle.element_table.specs.Rule.{neutral_rule_of};
 ghost use Rattle.profile.specs.Profile.{greatest_peaks};
 ghost use Rattle.right_document.specs.RunSettings.{run_settings_of};
 ghost use Rattle.right_document.specs.SolveSettings.{solve_settings_of};
-ghost use Rattle.right_document.specs.SettingsOf.{solve_settings_value_of};
+ghost use Rattle.right_document.specs.SettingsOf.{settings_value_of, solve_settings_value_of};
 
 use adducts::{Adduct, Choice};
 use element_table::Limits;
@@ -32,6 +32,18 @@ pub struct SolveSettings<'a> {
     pub budget: u32,
 }
 
+/// What lists are made under by a profile, for ions of an adduct.
+pub fn run_settings(profile: &Profile, adduct: Adduct, sieve: Sieve) -> RunSettings
+    requires { sieve.rules.items ≡ (run_settings_of profile.now adduct).rules }
+    ensures value { settings_value_of result ≡ run_settings_of profile.now adduct }
+{
+    RunSettings {
+        choice: choice_of(profile, adduct),
+        limits: profile.limits,
+        sieve,
+    }
+}
+
 /// What trees are found under by a profile, for ions of an adduct.
 pub fn solve_settings(
     profile: &Profile,
@@ -45,11 +57,7 @@ pub fn solve_settings(
     ensures peaks { result.listing.choice.peaks ≤ greatest_peaks }
 {
     SolveSettings {
-        listing: RunSettings {
-            choice: choice_of(profile, adduct),
-            limits: profile.limits,
-            sieve,
-        },
+        listing: run_settings(profile, adduct, sieve),
         candidate_rules,
         scores: &profile.scores,
         budget: profile.budget,
@@ -57,7 +65,7 @@ pub fn solve_settings(
 }
 
 /// The choice that a profile makes for an adduct.
-pub fn choice_of(profile: &Profile, adduct: Adduct) -> Choice
+fn choice_of(profile: &Profile, adduct: Adduct) -> Choice
     ensures { result ≡ (run_settings_of profile.now adduct).choice }
 {
     Choice {

@@ -36,7 +36,7 @@ long_text plan before now status slot name text ends long named told =
     let stop : IsNext (read slot) steps.rest = subst (λ class. StopsAt class steps.done steps.rest) long steps.stop in
     let found = some_in (name_in steps.done slot) (sym (steps.begun.slots slot) ∙ cause.1) in
     let whole : name_in plan slot ≡ Some found.0 =
-        ap (λ (all : List Step). name_in all slot) steps.parts ∙ name_in-earlier steps.done steps.rest slot found.0 found.1 in
+    ap (λ (all : List Step). name_in all slot) steps.parts ∙ name_in-earlier steps.done steps.rest slot found.0 found.1 in
     let same : found.0 ≡ name = one_name (sym whole ∙ named) in
     let fit = MatchOption-at_some _ (λ text. FitsLimit slot text (now.left slot) (class_of status)) text
     (ap (option_and_then before.gives) (found.1 ∙ ap Some same) ∙ told)

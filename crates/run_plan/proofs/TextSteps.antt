@@ -1,6 +1,7 @@
 -- `read_spectra` and what writes: what holds between the steps of a command on a text.
-use Rattle.std.proofs.Common.{◌≡◌, ◌≢◌, ◌++◌, ℕ, Bool, true, false, List, [], ◌∷◌, length, take, Option, Some, None, Result, Ok, Err, sym, ◌∙◌, ap, subst, refl, append_assoc, append-nil}
+use Rattle.std.proofs.Common.{◌≡◌, ◌≢◌, ◌++◌, ◌||◌, ℕ, Bool, true, false, List, [], ◌∷◌, length, take, Option, Some, None, Result, Ok, Err, sym, ◌∙◌, ap, subst, refl, append_assoc, append-nil}
 use Rattle.std.proofs.Math.Seq.{take-length}
+use Rattle.std.proofs.lemmas.List.Folds.{list_any-append}
 use Rattle.std.specs.Prelude.{OnOk, OnErr, option_map}
 use Rattle.frag_io.specs.declared.desk.Slot.{Slot}
 use Rattle.frag_io.specs.declared.desk.Slot.TheVariants.{Spectra, Profile, CertIn, Report, CertOut}
@@ -65,6 +66,29 @@ all_done done middle first third last =
 pub ends_as : (one other : List Step) (before now : DeskState) (status : Status) → one ≡ other → Ends one before now status
     → Ends other before now status
 ends_as one other before now status same = subst (λ (steps : List Step). Ends steps before now status) same
+
+pub ends_behind : (done some later : List Step) (before now : DeskState) (status : Status)
+    → Ends ((done ++ some) ++ later) before now status → Ends (done ++ (some ++ later)) before now status
+ends_behind done some later before now status = ends_as _ _ before now status (append_assoc done some later)
+
+-- three steps that are done one by one
+pub behind_two : (done later : List Step) (one two : Step) → ((done ++ one ∷ []) ++ two ∷ []) ++ later ≡ done ++ (one ∷ two ∷ later)
+behind_two done later one two =
+    append_assoc (done ++ one ∷ []) (two ∷ []) later ∙ append_assoc done (one ∷ []) (two ∷ later)
+
+pub behind_three : (done later : List Step) (one two three : Step)
+    → (((done ++ one ∷ []) ++ two ∷ []) ++ three ∷ []) ++ later ≡ done ++ (one ∷ two ∷ three ∷ later)
+behind_three done later one two three =
+    append_assoc ((done ++ one ∷ []) ++ two ∷ []) (three ∷ []) later ∙ behind_two done (three ∷ later) one two
+
+-- a slot that neither some steps nor those behind them read
+pub unread_behind : (done some : List Step) (slot : Slot) → is_read_in done slot ≡ false → is_read_in some slot ≡ false
+    → is_read_in (done ++ some) slot ≡ false
+unread_behind done some slot is also = list_any-append (is_read_of slot) done some ∙ none (is_read_in done slot) (is_read_in some slot) is also
+  where
+    none : (one other : Bool) → one ≡ false → other ≡ false → (one || other) ≡ false
+    none false other is also = also
+    none true other is also = is
 
 -- a text is unread as long as slots are begun
 pub still_unread : (done : List Step) (document : Option DocumentSlot) (name : List ℕ) → is_read_in done Spectra ≡ false

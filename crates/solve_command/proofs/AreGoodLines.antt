@@ -48,4 +48,3 @@ pub title_is_bytes : (title : List ℕ) → ((place : ℕ) → get_or title plac
 title_is_bytes [] fits = refl
 title_is_bytes (byte ∷ title) fits =
     and_from _ _ (lt-ltb byte 256 (fits 0)) (title_is_bytes title (λ place. fits (suc place)))
-

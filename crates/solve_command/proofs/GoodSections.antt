@@ -38,8 +38,10 @@ list_is_good : (choice : Choice) (list : FormulaListValue) → IsList choice lis
 list_is_good choice list is formulas = (
   line_is_good (list_line list.mz list.intensity (length list.formulas)) refl (
     within (10 ^ 18) list.mz is.mz (omega arith),
-    (within (10 ^ 18) list.intensity is.intensity (omega arith),
-    (within greatest_list (length list.formulas) is.few (omega arith), tt)),
+    (
+      within (10 ^ 18) list.intensity is.intensity (omega arith),
+      (within greatest_list (length list.formulas) is.few (omega arith), tt),
+    ),
   ),
   good-map formula_line list.formulas (λ k d before. line_is_good (formula_line _) refl (formulas k d before, tt)),
 )
@@ -52,11 +54,11 @@ pub solved_is_good : (choice : Choice) (solved : SolvedRead) → 0 < length solv
 solved_is_good choice solved some few lists formulas few_entries entries = (
   line_is_good (lists_line (length solved.lists)) refl ((some, few, omega arith), tt),
   good-append (flat_map list_lines solved.lists)
-  (entries_line (length solved.entries) ∷ flat_map entry_lines solved.entries)
+      (entries_line (length solved.entries) ∷ flat_map entry_lines solved.entries)
       (good-flat_map list_lines solved.lists
       (λ k d before. list_is_good choice _ (lists k d before) (formulas k d before))) (
         line_is_good (entries_line (length solved.entries)) refl
-        (within greatest_list (length solved.entries) few_entries (omega arith), tt),
+            (within greatest_list (length solved.entries) few_entries (omega arith), tt),
         good-flat_map entry_lines solved.entries entries,
       ),
 )
@@ -80,7 +82,7 @@ pub section_is_good : (section : Section) → section.line ≤ 4294967295 → ar
     → AreGoodLines (body_lines section.body) → AreGoodLines (section_lines section)
 section_is_good section few title body = (
   line_is_good (spectrum_line section.line section.title) refl
-  (within 4294967295 section.line few (omega arith), (title, tt)),
+      (within 4294967295 section.line few (omega arith), (title, tt)),
   good-append (body_lines section.body) (done_line ∷ []) body (line_is_good done_line refl tt, tt),
 )
 

@@ -1,3 +1,4 @@
+pub mod SolvePlan
 pub mod RightPart
 pub mod SolvePromise
 pub mod inside

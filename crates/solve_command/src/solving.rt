@@ -5,27 +5,26 @@ ghost use Rattle.frag_io.specs.declared.desk.Slot.{Slot};
 ghost use Rattle.frag_io.specs.declared.desk.Slot.TheVariants.{Report, CertOut};
 ghost use Rattle.frag_io.specs.DeskState.{DeskState};
 ghost use Rattle.frag_io.specs.Desk.{appended};
-ghost use Rattle.run_plan.specs.Begins.{Begin};
 ghost use Rattle.run_plan.specs.Causes.{IsUnwritten};
 ghost use Rattle.run_plan.specs.Class.{class_of, ended, IsOfProfile};
-ghost use Rattle.run_plan.specs.Limits.{AreReadWhole};
-ghost use Rattle.order_words.specs.Orders.{begins_of, solve, text_begins, written_begin};
+ghost use Rattle.run_plan.specs.Plan.{Step, output_steps};
 ghost use Rattle.run_plan.specs.ProfilePromise.{OnlyProfile, ProfilePromise};
 ghost use Rattle.right_document.specs.SolveSettings.{solve_settings_of};
 ghost use Rattle.run_plan.specs.TextPromise.{OwesText};
 ghost use Rattle.order_words.specs.NamesOf.{document_names_of};
-ghost use Rattle.run_plan.specs.Running.{Ends, IsUnfinished, Runs, status_of};
+ghost use Rattle.run_plan.specs.Running.{Ends, HasDone, IsUnfinished, status_of};
 ghost use Rattle.right_document.specs.SettingsOf.{solve_settings_value_of};
 ghost use Rattle.run_plan.specs.TextSteps.{ArePartlyWritten, IsWriteStop};
+ghost use Rattle.solve_command.specs.SolvePlan.{solve_plan, solve_steps_of};
 ghost use Rattle.solve_command.specs.SolvePromise.{SolvePromise, solve_meaning};
 
-use order_words::DocumentNames;
-use run_plan::{DocumentSlot, Status, finish_slot, read_spectra, take_profile, write_slot};
-use right_document::{SolveSettings, candidate_rules_of, fragment_rules_of, solve_settings};
 use crate::document::{Solution, solve_text};
 use element_table::Formula;
 use frag_io::{Desk, Slot};
+use order_words::DocumentNames;
 use profile::Profile;
+use right_document::{SolveSettings, candidate_rules_of, fragment_rules_of, solve_settings};
+use run_plan::{DocumentSlot, Status, finish_slot, read_spectra, take_profile, write_slot};
 use std::alloc::Global;
 use tree_document::parts_make_the_spelling;
 use valence_filter::{Sieve, all_hold};
@@ -34,7 +33,7 @@ use valence_filter::{Sieve, all_hold};
 /// the adduct.
 pub fn solve<D: Desk>(alloc: Global, names: &DocumentNames, desk: &mut D) -> Status
     requires { (slot : Slot) → (D.state desk.old).begun slot ≡ false }
-    ensures ends { Ends (begins_of (solve (document_names_of names.now))) (D.state desk.old) (D.state desk.new) result }
+    ensures ends { Ends (solve_plan (document_names_of names.now)) (D.state desk.old) (D.state desk.new) result }
     ensures profile { ProfilePromise (document_names_of names.now).profile (D.state desk.old) (D.state desk.new)
         result }
     ensures promise { SolvePromise (document_names_of names.now) (D.state desk.old) (D.state desk.new) result }
@@ -60,10 +59,9 @@ fn solve_under<D: Desk>(
     requires only { OnlyProfile (D.state desk.old) }
     requires unfinished { IsUnfinished (D.state desk.old) }
     requires unwritten { IsUnwritten (D.state desk.old) }
-    ensures ends { (done : List Begin) (before : DeskState) → Runs done before (D.state desk.old)
-        → AreReadWhole done before (D.state desk.old)
-        → Ends (done ++ text_begins names.now.spectra.now (Some (written_begin names.now.document.now))) before
-        (D.state desk.new) (status_of result) }
+    ensures ends { (done : List Step) (before : DeskState) → HasDone done before (D.state desk.old)
+        → Ends (done ++ solve_steps_of names.now.spectra.now names.now.document.now) before (D.state desk.new)
+        (status_of result) }
     ensures text { IfSome ((D.state desk.old).gives names.now.spectra.now) (λ text.
         OwesText (solve_meaning (solve_settings_of profile.now names.now.adduct) text) text (D.state desk.new)
         (status_of result)) }
@@ -97,10 +95,8 @@ fn solve_steps<D: Desk>(
     requires only { OnlyProfile (D.state desk.old) }
     requires unfinished { IsUnfinished (D.state desk.old) }
     requires unwritten { IsUnwritten (D.state desk.old) }
-    ensures ends { (done : List Begin) (before : DeskState) → Runs done before (D.state desk.old)
-        → AreReadWhole done before (D.state desk.old)
-        → Ends (done ++ text_begins name.now (Some (written_begin document.now))) before (D.state desk.new)
-        (status_of result) }
+    ensures ends { (done : List Step) (before : DeskState) → HasDone done before (D.state desk.old)
+        → Ends (done ++ solve_steps_of name.now document.now) before (D.state desk.new) (status_of result) }
     ensures text { IfSome ((D.state desk.old).gives name.now) (λ text.
         OwesText (solve_meaning (solve_settings_value_of settings.now) text) text (D.state desk.new)
         (status_of result)) }
@@ -138,11 +134,11 @@ fn write_outputs<D: Desk>(
         ((D.state desk.new).written Report ≡ appended ((D.state desk.old).written Report) report.now) }
     ensures part { OnErr result (ArePartlyWritten (D.state desk.old) (D.state desk.new) document.now report.now) }
     ensures stop { IfErr result (λ status. IsWriteStop (class_of status)) }
-    ensures ended { (order : List Begin) (before : DeskState) → Runs order before (D.state desk.old)
-        → AreReadWhole order before (D.state desk.old)
-        → OnOk result ((status : Status) → class_of status ≡ ended → Ends order before (D.state desk.new) status) }
-    ensures ends { (order : List Begin) (before : DeskState) → Runs order before (D.state desk.old)
-        → IfErr result (Ends order before (D.state desk.new)) }
+    ensures ended { (done : List Step) (before : DeskState) → HasDone done before (D.state desk.old)
+        → OnOk result ((status : Status) → class_of status ≡ ended
+        → Ends (done ++ output_steps) before (D.state desk.new) status) }
+    ensures ends { (done : List Step) (before : DeskState) → HasDone done before (D.state desk.old)
+        → IfErr result (Ends (done ++ output_steps) before (D.state desk.new)) }
 {
     write_slot(alloc, desk, Slot::CertOut, document)?;
     write_slot(alloc, desk, Slot::Report, report)?;

@@ -4,20 +4,21 @@ use Rattle.frag_io.specs.declared.desk.Slot.TheVariants.{Report}
 use Rattle.check_command.specs.CheckPromise.{check_meaning}
 use Rattle.run_plan.specs.declared.status.Status.TheVariants.{Done, MgfRefused}
 use Rattle.check_command.proofs.CheckPromise.{accepted_part}
-use Rattle.run_plan.proofs.Running.{memory_ends_all}
+use Rattle.run_plan.specs.Plan.{report_steps}
+use Rattle.run_plan.proofs.Running.{memory_ends}
 use Rattle.run_plan.proofs.TextPromise.{partly_owes}
 use Rattle.check_command.proofs.checking.tell_accepted.Goals as goal
 
 pub returns-in_err-report-clause-ends : goal.returns-in_err-report-clause-ends
-returns-in_err-report-clause-ends g c = λ order before runs whole.
+returns-in_err-report-clause-ends g c = λ done before did.
     let p = err_from_is_err_and c.from_residual.result c.from_residual.ensures.1 in
-    rw (p.1, p.2) (memory_ends_all order before (g.D.Desk.state c.args.desk.now) runs)
+    rw (p.1, p.2) (memory_ends done report_steps before (g.D.Desk.state c.args.desk.now) did)
 
 pub returns-in_err-write_report-clause-ends : goal.returns-in_err-write_report-clause-ends
-returns-in_err-write_report-clause-ends g c = λ order before runs whole.
+returns-in_err-write_report-clause-ends g c = λ done before did.
     let p = err_from_is_err_and c.from_residual-in_err-write_report.result
     c.from_residual-in_err-write_report.ensures.1 in
-    rw (p.1, p.2) (c.in_err-write_report.ensures.ends order before runs)
+    rw (p.1, p.2) (c.in_err-write_report.ensures.ends done before did)
 
 pub returns-in_err-write_report-clause-texts : goal.returns-in_err-write_report-clause-texts
 returns-in_err-write_report-clause-texts g c = λ settings text bytes short accepted.
@@ -32,8 +33,8 @@ returns-in_err-write_report-clause-texts g c = λ settings text bytes short acce
 
 pub returns-in-None-clause-ends : goal.returns-in-None-clause-ends
 returns-in-None-clause-ends g c =
-    λ order before runs whole. c.in_ok-write_report.ensures.ended order before runs whole Done refl
+    λ done before did. c.in_ok-write_report.ensures.ended done before did Done refl
 
 pub returns-clause-ends : goal.returns-clause-ends
-returns-clause-ends g c = λ order before runs whole.
-    c.in_ok-write_report.ensures.ended order before runs whole (MgfRefused c.in-Some.fault) refl
+returns-clause-ends g c = λ done before did.
+    c.in_ok-write_report.ensures.ended done before did (MgfRefused c.in-Some.fault) refl

@@ -3,29 +3,30 @@ use Rattle.std.proofs.lemmas.Option.{MatchOption-at_some}
 use Rattle.std.proofs.lemmas.Result.{err_from_is_err_and}
 use Rattle.frag_io.specs.declared.desk.Slot.TheVariants.{Spectra, Report}
 use Rattle.run_plan.specs.Limits.{greatest_text_of}
-use Rattle.order_words.specs.Orders.{text_begins}
+use Rattle.run_plan.specs.Plan.{report_steps, text_steps}
 use Rattle.run_plan.specs.declared.status.Status.TheVariants.{Done, MgfRefused}
-use Rattle.run_plan.proofs.Running.{at_some, memory_ends_all}
+use Rattle.run_plan.proofs.Running.{at_some, memory_ends}
 use Rattle.list_command.proofs.ListPromise.{done_lists, partly_lists, refused_lists}
-use Rattle.run_plan.proofs.TextSteps.{whole_alone}
+use Rattle.run_plan.proofs.TextSteps.{ends_behind}
 use Rattle.list_command.proofs.listing.list_steps.Goals as goal
 
 pub returns-in_err-text-clause-ends : goal.returns-in_err-text-clause-ends
-returns-in_err-text-clause-ends g c = λ done before runs whole.
+returns-in_err-text-clause-ends g c = λ done before did.
     let p = err_from_is_err_and c.from_residual.result c.from_residual.ensures.1 in
-    rw (p.1, p.2) (c.in_err-text.ensures.ends done before runs)
+    rw (p.1, p.2) (c.in_err-text.ensures.ends done report_steps before did)
 
 pub returns-in_err-report-clause-ends : goal.returns-in_err-report-clause-ends
-returns-in_err-report-clause-ends g c = λ done before runs whole.
+returns-in_err-report-clause-ends g c = λ done before did.
     let p = err_from_is_err_and c.from_residual-in_err-report.result c.from_residual-in_err-report.ensures.1 in
-    rw (p.1, p.2) (memory_ends_all (done ++ text_begins c.args.name.now None) before (g.D.Desk.state c.read_spectra.new.desk)
-    (c.in_ok-text.ensures.runs done before runs))
+    rw (p.1, p.2) (ends_behind done (text_steps c.args.name.now None) report_steps before (g.D.Desk.state c.read_spectra.new.desk) _
+    (memory_ends (done ++ text_steps c.args.name.now None) report_steps before (g.D.Desk.state c.read_spectra.new.desk)
+    (c.in_ok-text.ensures.done done before did)))
 
 pub returns-in_err-write_report-clause-ends : goal.returns-in_err-write_report-clause-ends
-returns-in_err-write_report-clause-ends g c = λ done before runs whole.
+returns-in_err-write_report-clause-ends g c = λ done before did.
     let p = err_from_is_err_and c.from_residual-in_err-write_report.result c.from_residual-in_err-write_report.ensures.1 in
-    rw (p.1, p.2) (c.in_err-write_report.ensures.ends (done ++ text_begins c.args.name.now None) before
-    (c.in_ok-text.ensures.runs done before runs))
+    rw (p.1, p.2) (ends_behind done (text_steps c.args.name.now None) report_steps before (g.D.Desk.state c.write_report.new.desk) _
+    (c.in_err-write_report.ensures.ends (done ++ text_steps c.args.name.now None) before (c.in_ok-text.ensures.done done before did)))
 
 pub returns-in_err-write_report-clause-text : goal.returns-in_err-write_report-clause-text
 returns-in_err-write_report-clause-text g c =
@@ -41,10 +42,9 @@ returns-in_err-write_report-clause-text g c =
     (c.read_spectra.ensures.unwritten Report refl) part.1))
 
 pub returns-in-None-clause-ends : goal.returns-in-None-clause-ends
-returns-in-None-clause-ends g c = λ done before runs whole.
-    c.in_ok-write_report.ensures.ended (done ++ text_begins c.args.name.now None) before (c.in_ok-text.ensures.runs done before runs)
-    (whole_alone done before (g.D.Desk.state c.read_spectra.new.desk) c.args.name.now
-    (c.in_ok-text.ensures.whole done before runs whole)) Done refl
+returns-in-None-clause-ends g c = λ done before did.
+    ends_behind done (text_steps c.args.name.now None) report_steps before (g.D.Desk.state c.write_report.new.desk) Done
+    (c.in_ok-write_report.ensures.ended (done ++ text_steps c.args.name.now None) before (c.in_ok-text.ensures.done done before did) Done refl)
 
 pub returns-in-None-clause-text : goal.returns-in-None-clause-text
 returns-in-None-clause-text g c =
@@ -56,10 +56,10 @@ returns-in-None-clause-text g c =
     (c.read_spectra.ensures.unwritten Report refl) c.in_ok-write_report.ensures.all)
 
 pub returns-clause-ends : goal.returns-clause-ends
-returns-clause-ends g c = λ done before runs whole.
-    c.in_ok-write_report.ensures.ended (done ++ text_begins c.args.name.now None) before (c.in_ok-text.ensures.runs done before runs)
-    (whole_alone done before (g.D.Desk.state c.read_spectra.new.desk) c.args.name.now
-    (c.in_ok-text.ensures.whole done before runs whole)) (MgfRefused c.in-Some.fault) refl
+returns-clause-ends g c = λ done before did.
+    ends_behind done (text_steps c.args.name.now None) report_steps before (g.D.Desk.state c.write_report.new.desk) (MgfRefused c.in-Some.fault)
+    (c.in_ok-write_report.ensures.ended (done ++ text_steps c.args.name.now None) before (c.in_ok-text.ensures.done done before did)
+    (MgfRefused c.in-Some.fault) refl)
 
 pub returns-clause-text : goal.returns-clause-text
 returns-clause-text g c =

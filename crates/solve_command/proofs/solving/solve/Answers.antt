@@ -1,4 +1,4 @@
-use Rattle.run_plan.specs.Begins.{profile_begin}
+use Rattle.run_plan.specs.Plan.{profile_steps}
 use Rattle.order_words.specs.NamesOf.{document_names_of}
 use Rattle.right_document.specs.SolveSettings.{solve_settings_of}
 use Rattle.solve_command.specs.SolvePromise.{solve_meaning}
@@ -24,7 +24,7 @@ returns-in-Ok-solve_under-clause-promise g c =
     (document_names_of c.args.names.now).profile (document_names_of c.args.names.now).spectra
     (g.D.Desk.state c.args.desk.now)
     (g.D.Desk.state c.take_profile.new.desk) (g.D.Desk.state c.solve_under.new.desk) _ _
-    c.in-Ok.ensures.taken (c.in-Ok.ensures.runs.gives _) c.in-Ok-solve_under.ensures.text
+    c.in-Ok.ensures.taken (c.in-Ok.ensures.done.gives _) c.in-Ok-solve_under.ensures.text
 
 pub returns-clause-promise : goal.returns-clause-promise
 returns-clause-promise g c =
@@ -33,19 +33,19 @@ returns-clause-promise g c =
     (document_names_of c.args.names.now).profile (document_names_of c.args.names.now).spectra
     (g.D.Desk.state c.args.desk.now)
     (g.D.Desk.state c.take_profile.new.desk) (g.D.Desk.state c.solve_under.new.desk) _ _
-    c.in-Ok.ensures.taken (c.in-Ok.ensures.runs.gives _) c.in-Err-solve_under.ensures.text
+    c.in-Ok.ensures.taken (c.in-Ok.ensures.done.gives _) c.in-Err-solve_under.ensures.text
 
 pub returns-in-Ok-solve_under-clause-ends : goal.returns-in-Ok-solve_under-clause-ends
 returns-in-Ok-solve_under-clause-ends g c =
-    c.in-Ok-solve_under.ensures.ends (profile_begin (document_names_of c.args.names.now).profile)
+    c.in-Ok-solve_under.ensures.ends (profile_steps (document_names_of c.args.names.now).profile)
     (g.D.Desk.state c.args.desk.now)
-    c.in-Ok.ensures.runs c.in-Ok.ensures.whole
+    c.in-Ok.ensures.done
 
 pub returns-clause-ends : goal.returns-clause-ends
 returns-clause-ends g c =
-    c.in-Err-solve_under.ensures.ends (profile_begin (document_names_of c.args.names.now).profile)
+    c.in-Err-solve_under.ensures.ends (profile_steps (document_names_of c.args.names.now).profile)
     (g.D.Desk.state c.args.desk.now)
-    c.in-Ok.ensures.runs c.in-Ok.ensures.whole
+    c.in-Ok.ensures.done
 
 pub returns-in-Ok-solve_under-clause-profile : goal.returns-in-Ok-solve_under-clause-profile
 returns-in-Ok-solve_under-clause-profile g c =

@@ -3,32 +3,33 @@ use Rattle.std.proofs.lemmas.Option.{MatchOption-at_some}
 use Rattle.std.proofs.lemmas.Result.{err_from_is_err_and}
 use Rattle.frag_io.specs.declared.desk.Slot.TheVariants.{Spectra, Report, CertOut}
 use Rattle.run_plan.specs.Limits.{greatest_text_of}
-use Rattle.order_words.specs.Orders.{text_begins, written_begin}
+use Rattle.run_plan.specs.Plan.{Step, begin, output_steps, text_steps}
 use Rattle.run_plan.specs.declared.status.Status.TheVariants.{Done, MgfRefused}
-use Rattle.run_plan.proofs.Running.{at_some, memory_ends_all}
+use Rattle.run_plan.proofs.Running.{at_some, memory_ends}
 use Rattle.solve_command.proofs.SolvePromise.{done_solves, partly_solves, refused_solves}
-use Rattle.run_plan.proofs.TextSteps.{whole_written}
+use Rattle.run_plan.proofs.TextSteps.{ends_behind}
 use Rattle.solve_command.proofs.solving.solve_steps.Goals as goal
 
 pub returns-in_err-text-clause-ends : goal.returns-in_err-text-clause-ends
-returns-in_err-text-clause-ends g c = λ done before runs whole.
+returns-in_err-text-clause-ends g c = λ done before did.
     let p = err_from_is_err_and c.from_residual.result c.from_residual.ensures.1 in
-    rw (p.1, p.2) (c.in_err-text.ensures.ends done before runs)
+    rw (p.1, p.2) (c.in_err-text.ensures.ends done output_steps before did)
 
 pub returns-in_err-solution-clause-ends : goal.returns-in_err-solution-clause-ends
-returns-in_err-solution-clause-ends g c = λ done before runs whole.
+returns-in_err-solution-clause-ends g c = λ done before did.
+    let text : List Step = text_steps c.args.name.now (Some (begin CertOut c.args.document.now)) in
     let p = err_from_is_err_and c.from_residual-in_err-solution.result c.from_residual-in_err-solution.ensures.1 in
-    rw (p.1, p.2) (memory_ends_all (done ++ text_begins c.args.name.now (Some (written_begin c.args.document.now)))
-    before
-    (g.D.Desk.state c.read_spectra.new.desk) (c.in_ok-text.ensures.runs done before runs))
+    rw (p.1, p.2) (ends_behind done text output_steps before (g.D.Desk.state c.read_spectra.new.desk) _
+    (memory_ends (done ++ text) output_steps before (g.D.Desk.state c.read_spectra.new.desk)
+    (c.in_ok-text.ensures.done done before did)))
 
 pub returns-in_err-write_outputs-clause-ends : goal.returns-in_err-write_outputs-clause-ends
-returns-in_err-write_outputs-clause-ends g c = λ done before runs whole.
+returns-in_err-write_outputs-clause-ends g c = λ done before did.
+    let text : List Step = text_steps c.args.name.now (Some (begin CertOut c.args.document.now)) in
     let p = err_from_is_err_and c.from_residual-in_err-write_outputs.result
     c.from_residual-in_err-write_outputs.ensures.1 in
-    rw (p.1, p.2) (c.in_err-write_outputs.ensures.ends
-    (done ++ text_begins c.args.name.now (Some (written_begin c.args.document.now))) before
-    (c.in_ok-text.ensures.runs done before runs))
+    rw (p.1, p.2) (ends_behind done text output_steps before (g.D.Desk.state c.write_outputs.new.desk) _
+    (c.in_err-write_outputs.ensures.ends (done ++ text) before (c.in_ok-text.ensures.done done before did)))
 
 pub returns-in_err-write_outputs-clause-text : goal.returns-in_err-write_outputs-clause-text
 returns-in_err-write_outputs-clause-text g c =
@@ -47,12 +48,10 @@ returns-in_err-write_outputs-clause-text g c =
     c.in_err-write_outputs.ensures.part))
 
 pub returns-in-None-clause-ends : goal.returns-in-None-clause-ends
-returns-in-None-clause-ends g c = λ done before runs whole.
-    c.in_ok-write_outputs.ensures.ended (done ++ text_begins c.args.name.now (Some (written_begin c.args.document.now)))
-    before
-    (c.in_ok-text.ensures.runs done before runs)
-    (whole_written done before (g.D.Desk.state c.read_spectra.new.desk) c.args.name.now c.args.document.now
-    (c.in_ok-text.ensures.whole done before runs whole)) Done refl
+returns-in-None-clause-ends g c = λ done before did.
+    let text : List Step = text_steps c.args.name.now (Some (begin CertOut c.args.document.now)) in
+    ends_behind done text output_steps before (g.D.Desk.state c.write_outputs.new.desk) Done
+    (c.in_ok-write_outputs.ensures.ended (done ++ text) before (c.in_ok-text.ensures.done done before did) Done refl)
 
 pub returns-in-None-clause-text : goal.returns-in-None-clause-text
 returns-in-None-clause-text g c =
@@ -68,12 +67,11 @@ returns-in-None-clause-text g c =
     c.in_ok-write_outputs.ensures.report)
 
 pub returns-clause-ends : goal.returns-clause-ends
-returns-clause-ends g c = λ done before runs whole.
-    c.in_ok-write_outputs.ensures.ended (done ++ text_begins c.args.name.now (Some (written_begin c.args.document.now)))
-    before
-    (c.in_ok-text.ensures.runs done before runs)
-    (whole_written done before (g.D.Desk.state c.read_spectra.new.desk) c.args.name.now c.args.document.now
-    (c.in_ok-text.ensures.whole done before runs whole)) (MgfRefused c.in-Some.fault) refl
+returns-clause-ends g c = λ done before did.
+    let text : List Step = text_steps c.args.name.now (Some (begin CertOut c.args.document.now)) in
+    ends_behind done text output_steps before (g.D.Desk.state c.write_outputs.new.desk) (MgfRefused c.in-Some.fault)
+    (c.in_ok-write_outputs.ensures.ended (done ++ text) before (c.in_ok-text.ensures.done done before did)
+    (MgfRefused c.in-Some.fault) refl)
 
 pub returns-clause-text : goal.returns-clause-text
 returns-clause-text g c =

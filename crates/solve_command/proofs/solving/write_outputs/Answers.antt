@@ -1,8 +1,12 @@
-use Rattle.std.proofs.Common.{◌∙◌, ap, length, take}
+use Rattle.std.proofs.Common.{◌∙◌, ◌++◌, List, [], ◌∷◌, ap, length, subst, take}
+use Rattle.std.specs.Prelude.{IfErr}
 use Rattle.std.proofs.lemmas.Result.{err_from_is_err_and}
 use Rattle.frag_io.specs.Desk.{appended}
 use Rattle.frag_io.specs.declared.desk.Slot.TheVariants.{Report, CertOut}
-use Rattle.run_plan.proofs.TextSteps.{appended_all, appended_none, on_err, on_ok, on_ok_then, outputs_ended}
+use Rattle.run_plan.specs.Plan.{Step, finish, output_steps, write}
+use Rattle.run_plan.specs.Running.{Ends, HasDone}
+use Rattle.run_plan.proofs.TextSteps.{appended_all, appended_none, behind_three, behind_two, both, ends_as, ends_behind, on_err, on_ok}
+use Rattle.run_plan.proofs.TextSteps.{on_ok_then, outputs_ended}
 use Rattle.solve_command.proofs.solving.write_outputs.Goals as goal
 
 pub returns-in_err-write_slot-clause-part : goal.returns-in_err-write_slot-clause-part
@@ -49,34 +53,48 @@ returns-clause-part g c = on_err c.finish_slot-2.result _ (record {
 })
 
 pub returns-clause-ended : goal.returns-clause-ended
-returns-clause-ended g c = λ order before runs whole.
-    on_ok_then c.finish_slot-2.result _ _ c.finish_slot-2.ensures.ok (λ gains status is.
-    outputs_ended order before (g.D.Desk.state c.args.desk.now) (g.D.Desk.state c.finish_slot-2.new.desk) status is
-    (c.finish_slot-2.ensures.runs order before (c.finish_slot.ensures.runs order before
-    (c.write_slot-2.ensures.runs order before (c.write_slot.ensures.runs order before runs)))) whole
-    (λ slot not_document not_report. c.finish_slot-2.ensures.keeps.others_left slot not_report
-    ∙ c.finish_slot.ensures.keeps.others_left slot not_document
-    ∙ c.write_slot-2.ensures.keeps.others_left slot not_report
-    ∙ c.write_slot.ensures.keeps.others_left slot not_document)
-    (λ begun. gains.others CertOut (λ is. cc) ∙ c.in_ok-finish_slot.ensures.ok.added) gains.added)
+returns-clause-ended g c = λ done before did.
+    on_ok_then c.finish_slot-2.result _ _ (both _ _ _ c.finish_slot-2.ensures.ok
+    (c.finish_slot-2.ensures.done (((done ++ write CertOut ∷ []) ++ write Report ∷ []) ++ finish CertOut ∷ []) before
+    (c.in_ok-finish_slot.ensures.done ((done ++ write CertOut ∷ []) ++ write Report ∷ []) before
+    (c.in_ok-write_slot-2.ensures.done (done ++ write CertOut ∷ []) before
+    (c.in_ok-write_slot.ensures.done done before did))))) (λ ok status is.
+    outputs_ended (done ++ output_steps) before (g.D.Desk.state c.finish_slot-2.new.desk) status is
+    (subst (λ (steps : List Step). HasDone steps before (g.D.Desk.state c.finish_slot-2.new.desk))
+    (behind_three done (finish Report ∷ []) (write CertOut) (write Report) (finish CertOut)) ok.1)
+    (λ begun. ok.0.others CertOut (λ is. cc) ∙ c.in_ok-finish_slot.ensures.ok.added) ok.0.added)
+
+pub returns-in_err-write_slot-clause-ends : goal.returns-in_err-write_slot-clause-ends
+returns-in_err-write_slot-clause-ends g c = λ done before did.
+    let p = err_from_is_err_and c.from_residual.result c.from_residual.ensures.1 in
+    rw (p.1, p.2) (c.in_err-write_slot.ensures.ends done (write Report ∷ finish CertOut ∷ finish Report ∷ []) before did)
 
 pub returns-in_err-write_slot-2-clause-ends : goal.returns-in_err-write_slot-2-clause-ends
-returns-in_err-write_slot-2-clause-ends g c = λ order before runs.
+returns-in_err-write_slot-2-clause-ends g c = λ done before did.
     let p = err_from_is_err_and c.from_residual-in_err-write_slot-2.result
     c.from_residual-in_err-write_slot-2.ensures.1 in
-    rw (p.1, p.2) (c.in_err-write_slot-2.ensures.ends order before (c.write_slot.ensures.runs order before runs))
+    rw (p.1, p.2) (ends_behind done (write CertOut ∷ []) (write Report ∷ finish CertOut ∷ finish Report ∷ []) before
+    (g.D.Desk.state c.write_slot-2.new.desk) _
+    (c.in_err-write_slot-2.ensures.ends (done ++ write CertOut ∷ []) (finish CertOut ∷ finish Report ∷ []) before
+    (c.in_ok-write_slot.ensures.done done before did)))
 
 pub returns-in_err-finish_slot-clause-ends : goal.returns-in_err-finish_slot-clause-ends
-returns-in_err-finish_slot-clause-ends g c = λ order before runs.
+returns-in_err-finish_slot-clause-ends g c = λ done before did.
     let p = err_from_is_err_and c.from_residual-in_err-finish_slot.result
     c.from_residual-in_err-finish_slot.ensures.1 in
-    rw (p.1, p.2) (c.in_err-finish_slot.ensures.ends order before (c.write_slot-2.ensures.runs order before
-    (c.write_slot.ensures.runs order before runs)))
+    rw (p.1, p.2) (ends_as (((done ++ write CertOut ∷ []) ++ write Report ∷ []) ++ finish CertOut ∷ finish Report ∷ [])
+    (done ++ output_steps) before (g.D.Desk.state c.finish_slot.new.desk) _
+    (behind_two done (finish CertOut ∷ finish Report ∷ []) (write CertOut) (write Report))
+    (c.in_err-finish_slot.ensures.ends ((done ++ write CertOut ∷ []) ++ write Report ∷ []) (finish Report ∷ []) before
+    (c.in_ok-write_slot-2.ensures.done (done ++ write CertOut ∷ []) before (c.in_ok-write_slot.ensures.done done before did))))
 
 pub returns-clause-ends : goal.returns-clause-ends
-returns-clause-ends g c = λ order before runs.
-    c.finish_slot-2.ensures.ends order before (c.finish_slot.ensures.runs order before
-    (c.write_slot-2.ensures.runs order before (c.write_slot.ensures.runs order before runs)))
+returns-clause-ends g c = λ done before did.
+    subst (λ (steps : List Step). IfErr c.finish_slot-2.result (Ends steps before (g.D.Desk.state c.finish_slot-2.new.desk)))
+    (behind_three done (finish Report ∷ []) (write CertOut) (write Report) (finish CertOut))
+    (c.finish_slot-2.ensures.ends (((done ++ write CertOut ∷ []) ++ write Report ∷ []) ++ finish CertOut ∷ []) [] before
+    (c.in_ok-finish_slot.ensures.done ((done ++ write CertOut ∷ []) ++ write Report ∷ []) before
+    (c.in_ok-write_slot-2.ensures.done (done ++ write CertOut ∷ []) before (c.in_ok-write_slot.ensures.done done before did))))
 
 pub returns-clause-document : goal.returns-clause-document
 returns-clause-document g c = on_ok c.finish_slot-2.result _
