@@ -22,15 +22,18 @@ abbrev pub HasTree : SolveSettingsValue → List FormulaListValue → Entry → 
 HasTree settings lists entry = TreeIsRight settings lists entry.candidate entry.outcome
 
 -- a part is the first tree that is wrong
-pub record IsTreePart (settings : SolveSettingsValue) (lists : List FormulaListValue) (entries : List Entry) (found : RejectPart)
+pub record IsTreePart (settings : SolveSettingsValue) (lists : List FormulaListValue) (entries : List Entry)
+    (found : RejectPart)
     : Type 0 where
   pub number : ℕ
   pub where_first : EntryPlace
   pub is : found ≡ part.Tree number where_first
   pub is_place : IsTreePlace settings lists entries number where_first
 
--- of the first entries, as many as are counted: all graphs have the right sizes, and no tree is wrong before one that was found
-pub record AreRightSoFar (settings : SolveSettingsValue) (lists : List FormulaListValue) (entries : List Entry) (count : ℕ)
+-- of the first entries, as many as are counted: all graphs have the right sizes, and no tree is wrong before one that
+-- was found
+pub record AreRightSoFar (settings : SolveSettingsValue) (lists : List FormulaListValue) (entries : List Entry)
+    (count : ℕ)
     (first : Option RejectPart) : Type 0 where
   pub sizes : All (HasSize settings lists) (take count entries)
   pub trees : MatchOption first (All (HasTree settings lists) (take count entries)) (IsTreePart settings lists entries)
@@ -57,17 +60,21 @@ module _ (settings : SolveSettingsValue) (lists : List FormulaListValue) (entrie
 
     sizes_more : HasSize settings lists entry → All (HasSize settings lists) (take (place + 1) entries)
     sizes_more size =
-        All-more (HasSize settings lists) entries place entry within before.sizes (subst (HasSize settings lists) is size)
+        All-more (HasSize settings lists) entries place entry within before.sizes
+        (subst (HasSize settings lists) is size)
 
     -- another entry is right
-    pub right_more : OutcomeIsRight settings lists entry.candidate entry.outcome → AreRightSoFar settings lists entries (place + 1) first
+    pub right_more : OutcomeIsRight settings lists entry.candidate entry.outcome
+        → AreRightSoFar settings lists entries (place + 1) first
     right_more right = record { sizes = sizes_more right.0; trees = trees_more first before.trees }
       where
         trees_more : (found : Option RejectPart)
             → MatchOption found (All (HasTree settings lists) (take place entries)) (IsTreePart settings lists entries)
-            → MatchOption found (All (HasTree settings lists) (take (place + 1) entries)) (IsTreePart settings lists entries)
+            → MatchOption found (All (HasTree settings lists) (take (place + 1) entries))
+            (IsTreePart settings lists entries)
         trees_more None trees =
-            All-more (HasTree settings lists) entries place entry within trees (subst (HasTree settings lists) is right.1)
+            All-more (HasTree settings lists) entries place entry within trees
+            (subst (HasTree settings lists) is right.1)
         trees_more (Some found) is_part = is_part
 
     -- another tree is wrong
@@ -95,7 +102,8 @@ module _ (settings : SolveSettingsValue) (lists : List FormulaListValue) (entrie
         }
         trees_more (Some found) is_part = is_part
 
-  pub answer_of_all : (count : ℕ) (first : Option RejectPart) → length entries ≡ count → AreRightSoFar settings lists entries count first
+  pub answer_of_all : (count : ℕ) (first : Option RejectPart) → length entries ≡ count
+      → AreRightSoFar settings lists entries count first
       → AreTreesAnswer settings lists entries first
   answer_of_all count first all so_far = answer first so_far.trees
     where

@@ -10,12 +10,13 @@ use Rattle.tree_document.specs.declared.entry.Entry.{Entry}
 use Rattle.right_document.specs.Candidates.{candidates_of, ion_of}
 use Rattle.right_document.specs.SolveSettings.{SolveSettingsValue}
 use Rattle.right_document.specs.Outlines.{AreOwnLists}
-use Rattle.right_document.proofs.CandidatesOf.{candidates_few}
-use Rattle.right_document.proofs.SolvedIsRight.{graphs_stand}
+use Rattle.right_document.proofs.CandidatesOf.{candidates_few, graphs_stand}
 
-module _ (settings : SolveSettingsValue) (lists : List FormulaListValue) (own : AreOwnLists settings.listing.choice lists)
+module _ (settings : SolveSettingsValue) (lists : List FormulaListValue)
+    (own : AreOwnLists settings.listing.choice lists)
     (entries : List Entry)
-    (same : IsPermutation (candidates_of settings (list_at lists 0).formulas) (map (λ entry. entry.candidate) entries)) where
+    (same : IsPermutation (candidates_of settings (list_at lists 0).formulas) (map (λ entry. entry.candidate) entries))
+    where
   abbrev candidates : List (List ℕ)
   candidates = candidates_of settings (list_at lists 0).formulas
 

@@ -7,8 +7,9 @@ use Rattle.profile.specs.Profile.{ProfileValue}
 use Rattle.order_words.specs.Orders.{DocumentNames}
 use Rattle.right_document.specs.SolveSettings.{SolveSettingsValue, solve_settings_of}
 use Rattle.run_plan.specs.TextPromise.{OwesText}
-use Rattle.check_command.specs.CheckPromise.{CheckPromise, IsAccepted, IsAcceptedPart, accepted_text, check_meaning}
-use Rattle.check_command.specs.inside.Checked.{IsNoMemory}
+use Rattle.check_command.specs.CheckOutcome.{IsAccepted}
+use Rattle.check_command.specs.CheckPromise.{CheckPromise, IsAcceptedPart, accepted_text, check_meaning}
+use Rattle.check_command.specs.inside.NoMemory.{IsNoMemory}
 use Rattle.run_plan.specs.ProfileTaken.{IsTaken}
 use Rattle.run_plan.specs.declared.status.Status.{Status}
 use Rattle.right_document.proofs.IsPrefix.{prefix_of}
@@ -35,9 +36,11 @@ pub taken_check : (names : DocumentNames) (before mid now : DeskState) (profile 
 taken_check names before mid now profile status taken same_text same_document owes refusal = record {
   refusal = λ fault is no_memory. refusal (subst IsNoMemory (sym is) no_memory);
   texts = taken_for (λ told. IfSome (before.gives names.spectra) (λ text. IfSome (before.gives names.document) (λ bytes.
-      OwesText (check_meaning (solve_settings_of told names.adduct) text bytes) text now status))) before.gives names.profile profile taken
+      OwesText (check_meaning (solve_settings_of told names.adduct) text bytes) text now status))) before.gives
+      names.profile profile taken
       (subst (λ o. IfSome o (λ text. IfSome (before.gives names.document) (λ bytes.
       OwesText (check_meaning (solve_settings_of profile names.adduct) text bytes) text now status))) same_text
       (subst (λ o. IfSome (mid.gives names.spectra) (λ text. IfSome o (λ bytes.
-      OwesText (check_meaning (solve_settings_of profile names.adduct) text bytes) text now status))) same_document owes));
+      OwesText (check_meaning (solve_settings_of profile names.adduct) text bytes) text now status))) same_document
+      owes));
 }

@@ -19,7 +19,8 @@ some_bytes line = omega (arith, length-append (line_text line) (codes "\n"))
 some_lines : (section : Section) → 1 ≤ length (section_lines section)
 some_lines section = omega arith
 
-pub few_sections : (document : Document) (bytes : List ℕ) (most : ℕ) → bytes ≡ spelling_of document → length bytes ≤ most
+pub few_sections : (document : Document) (bytes : List ℕ) (most : ℕ) → bytes ≡ spelling_of document
+    → length bytes ≤ most
     → length document.sections ≤ most
 few_sections document bytes most spelled short =
     omega (

@@ -1,4 +1,5 @@
--- `IsSectionAnswer`: what is answered of a section with the line and the title of its spectrum is what is answered of its body.
+-- `IsSectionAnswer`: what is answered of a section with the line and the title of its spectrum is what is answered of
+-- its body.
 use Rattle.std.proofs.Common.{◌≡◌, ◌∙◌, Option, Some, None}
 use Rattle.mgf_reader.specs.Spectrum.{SpectrumValue}
 use Rattle.tree_document.specs.declared.document.Body.{Body}
@@ -20,12 +21,14 @@ module _ (settings : SolveSettingsValue) where
   not_in_spectrum (listed lists) (body.Skipped told) is = is
   not_in_spectrum (listed lists) (body.Solved solved) is = is
 
-  place_in_body : (told : Outlined) (section : Section) (place : RejectPart) → section.line ≡ told.line → section.title ≡ told.title
+  place_in_body : (told : Outlined) (section : Section) (place : RejectPart) → section.line ≡ told.line
+      → section.title ≡ told.title
       → IsBodyPlace settings told.outline section.body place → IsSectionPlace settings told section place
   place_in_body told section part.Spectrum line title is = absurd (not_in_spectrum told.outline section.body is)
   place_in_body told section other line title is = (line, title, is)
 
-  pub section_answer : (spectrum : SpectrumValue) (section : Section) (told : Outlined) → IsOutlined settings.listing spectrum told
+  pub section_answer : (spectrum : SpectrumValue) (section : Section) (told : Outlined)
+      → IsOutlined settings.listing spectrum told
       → section.line ≡ told.line → section.title ≡ told.title → (answer : Option RejectPart)
       → IsBodyAnswer settings told.outline section.body answer → IsSectionAnswer settings spectrum section answer
   section_answer spectrum section told outlined line title None right = record {

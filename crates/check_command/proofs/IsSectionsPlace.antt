@@ -1,5 +1,6 @@
 -- `IsSectionsPlace`: the sections that were right so far, and the first place where sections differ.
-use Rattle.std.proofs.Common.{◌≡◌, ◌+◌, ◌<◌, ◌≤◌, ◌++◌, ℕ, List, [], ◌∷◌, length, take, slice_get, Option, Some, arith, ap, sym, ◌∙◌, refl, subst, length-append, length-take-le, take_all}
+use Rattle.std.proofs.Common.{◌≡◌, ◌+◌, ◌<◌, ◌≤◌, ◌++◌, ℕ, List, [], ◌∷◌, length, take, slice_get, Option, Some, arith}
+use Rattle.std.proofs.Common.{ap, sym, ◌∙◌, refl, subst, length-append, length-take-le, take_all}
 use Rattle.std.proofs.lemmas.List.{take_at, take_more, get_or_at}
 use Rattle.std.proofs.lemmas.Option.{get_or_from_slice_get, slice_get-get_or, slice_get_within}
 use Rattle.mgf_reader.specs.Spectrum.{SpectrumValue}
@@ -12,7 +13,8 @@ use Rattle.right_document.specs.OneEach.{OneEach}
 use Rattle.right_document.specs.Outline.{OutlineValue, listed, skipped}
 use Rattle.right_document.specs.RightSection.{SectionIsRight}
 use Rattle.right_document.specs.SolveSettings.{SolveSettingsValue}
-use Rattle.check_command.specs.CheckPlaces.{IsBodyPlace, IsDocumentPlace, IsExtra, IsInSection, IsMissing, IsSectionsPlace}
+use Rattle.check_command.specs.CheckPlaces.{IsBodyPlace, IsDocumentPlace, IsExtra, IsInSection, IsMissing}
+use Rattle.check_command.specs.CheckPlaces.{IsSectionsPlace}
 use Rattle.check_command.specs.inside.CheckAnswers.{IsSectionAnswer}
 use Rattle.run_plan.specs.declared.reject.RejectPart.{RejectPart}
 use Rattle.run_plan.specs.declared.reject.RejectPart.TheVariants as part
@@ -33,17 +35,20 @@ compared_none settings all sections = record {
 
 pub compared_more : (settings : SolveSettingsValue) (all waiting rest : List SpectrumValue) (sections : List Section)
     (number : ℕ) (spectrum : SpectrumValue) (section : Section)
-    → Compared settings all waiting sections number → waiting ≡ spectrum ∷ rest → slice_get sections number ≡ Some section
+    → Compared settings all waiting sections number → waiting ≡ spectrum ∷ rest
+    → slice_get sections number ≡ Some section
     → SectionIsRight settings spectrum section → Compared settings all rest sections (number + 1)
 compared_more settings all waiting rest sections number spectrum section so_far taken is right =
     let inside = slice_get_within sections number section is in
     let one_more : take number sections ++ section ∷ [] ≡ take (number + 1) sections =
-    ap (λ (last : Section). take number sections ++ last ∷ []) (sym (get_or_from_slice_get sections number section section is))
+    ap (λ (last : Section). take number sections ++ last ∷ [])
+    (sym (get_or_from_slice_get sections number section section is))
     ∙ sym (take_more sections number section inside)
     in
     record {
       handed = subst (λ made. HandedOut (SectionIsRight settings) all rest made) one_more
-          (handed_more (SectionIsRight settings) all waiting rest (take number sections) spectrum section so_far.handed taken right);
+          (handed_more (SectionIsRight settings) all waiting rest (take number sections) spectrum section so_far.handed
+          taken right);
       within = omega (arith, inside);
     }
 
@@ -54,7 +59,8 @@ count_out settings all waiting sections number so_far =
     sym (length-OneEach (SectionIsRight settings) so_far.handed.out (take number sections) so_far.handed.each)
     ∙ length-take-le number sections so_far.within
 
-pub compared_all : (settings : SolveSettingsValue) (all waiting : List SpectrumValue) (sections : List Section) (number : ℕ)
+pub compared_all : (settings : SolveSettingsValue) (all waiting : List SpectrumValue) (sections : List Section)
+    (number : ℕ)
     → Compared settings all waiting sections number → waiting ≡ [] → length sections ≤ number
     → OneEach (SectionIsRight settings) all sections
 compared_all settings all waiting sections number so_far none past =
@@ -68,7 +74,8 @@ pub compared_extra : (settings : SolveSettingsValue) (all waiting : List Spectru
 compared_extra settings all waiting sections number so_far none fewer =
     let each = handed_all (SectionIsRight settings) all waiting (take number sections) so_far.handed none in
     let count : number ≡ length all =
-    sym (length-take-le number sections so_far.within) ∙ length-OneEach (SectionIsRight settings) all (take number sections) each
+    sym (length-take-le number sections so_far.within) ∙ length-OneEach (SectionIsRight settings) all
+    (take number sections) each
     in
     record {
       before = subst (λ n. OneEach (SectionIsRight settings) all (take n sections)) count each;
@@ -96,7 +103,8 @@ compared_missing settings all waiting rest sections number spectrum so_far taken
     in
     record {
       before = subst (λ n. OneEach (SectionIsRight settings) (take n all) sections) count
-          (subst (λ made. OneEach (SectionIsRight settings) (take number all) made) (take_all number sections past) right);
+          (subst (λ made. OneEach (SectionIsRight settings) (take number all) made)
+          (take_all number sections past) right);
       fewer = omega (arith, longer);
       numbered = ap (λ n. n + 1) count;
     }
@@ -136,7 +144,8 @@ no_ending settings (listed lists) (body.Solved told) is = is
 
 -- the first section that differs, in its first part that differs, is where the sections differ first
 in_section : (settings : SolveSettingsValue) (spectra : List SpectrumValue) (sections : List Section) (number : ℕ)
-    (place : RejectPart) → IsInSection settings spectra sections number place → IsSectionsPlace settings spectra sections number place
+    (place : RejectPart) → IsInSection settings spectra sections number place
+    → IsSectionsPlace settings spectra sections number place
 in_section settings spectra sections number part.Missing is =
     absurd (no_missing settings is.told.outline is.section.body is.is_place.2)
 in_section settings spectra sections number part.Extra is =
@@ -154,7 +163,8 @@ in_section settings spectra sections number part.Ending is = is
 -- a spectrum waits, and its section differs in this part
 pub compared_inside : (settings : SolveSettingsValue) (all waiting rest : List SpectrumValue) (sections : List Section)
     (number : ℕ) (spectrum : SpectrumValue) (section : Section) (place : RejectPart)
-    → Compared settings all waiting sections number → waiting ≡ spectrum ∷ rest → slice_get sections number ≡ Some section
+    → Compared settings all waiting sections number → waiting ≡ spectrum ∷ rest
+    → slice_get sections number ≡ Some section
     → IsSectionAnswer settings spectrum section (Some place) → IsSectionsPlace settings all sections (number + 1) place
 compared_inside settings all waiting rest sections number spectrum section place so_far taken is answer =
     in_section settings all sections (number + 1) place (record {
@@ -164,7 +174,8 @@ compared_inside settings all waiting rest sections number spectrum section place
           (sym (out_is settings all waiting sections number so_far)) so_far.handed.each;
       spectrum = spectrum;
       section = section;
-      is_spectrum = ap (λ spectra. slice_get spectra number) (so_far.handed.whole ∙ ap (λ later. so_far.handed.out ++ later) taken)
+      is_spectrum = ap (λ spectra. slice_get spectra number)
+          (so_far.handed.whole ∙ ap (λ later. so_far.handed.out ++ later) taken)
           ∙ slice_get-get_or (so_far.handed.out ++ spectrum ∷ rest) number spectrum within
           ∙ ap Some (get_or_at so_far.handed.out spectrum rest spectrum number count);
       is_section = is;

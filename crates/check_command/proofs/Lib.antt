@@ -1,11 +1,12 @@
-pub mod CheckPromise
-pub mod IsSectionsPlace
-pub mod SameEnding
-pub mod IsReading
-pub mod EachCert
-pub mod IsDocumentPlace
-pub mod OneOutcome
-pub mod RankCmp
-pub mod AreTreesAnswer
-pub mod CandidatesFit
-pub mod IsSectionAnswer
+mod CheckPromise
+mod IsSectionsPlace
+mod SameEnding
+mod IsReading
+mod EachCert
+mod IsDocumentPlace
+mod OneOutcome
+mod RankCmp
+mod AreTreesAnswer
+mod CandidatesFit
+mod IsSectionAnswer
+mod IsFinding

@@ -9,12 +9,13 @@ use Rattle.tree_document.specs.declared.fault.CertFault.{CertFault}
 use Rattle.right_document.specs.RightDocument.{DocumentIsRight}
 use Rattle.right_document.specs.SolveSettings.{SolveSettingsValue}
 use Rattle.check_command.specs.CheckPlaces.{IsDocumentPlace}
-use Rattle.check_command.specs.CheckPromise.{CheckOutcome, IsOutcome, accepted, refused, rejected}
+use Rattle.check_command.specs.CheckOutcome.{CheckOutcome, IsOutcome, accepted, refused, rejected}
 use Rattle.run_plan.specs.declared.reject.RejectPart.{RejectPart}
 
 -- bytes read in one way, and a text does
 abbrev pub OneBytes : Type 0
-OneBytes = (bytes : List ℕ) (one other : Result Document CertFault) → IsReading bytes one → IsReading bytes other → one ≡ other
+OneBytes = (bytes : List ℕ) (one other : Result Document CertFault) → IsReading bytes one → IsReading bytes other
+    → one ≡ other
 
 abbrev pub OneText : Type 0
 OneText = (text : List ℕ) (spectra other : List SpectrumValue) (fault another : Option MgfFault)
@@ -51,7 +52,8 @@ same_outcome one_bytes one_text not_right settings text bytes count fault (accep
     (one_text text also.right.spectra is.right.spectra another fault also.right.reads is.right.reads).1
   where
     same : also.document ≡ is.document
-    same = same_document also.document is.document (one_bytes bytes (Ok also.document) (Ok is.document) also.read is.read)
+    same = same_document also.document is.document
+        (one_bytes bytes (Ok also.document) (Ok is.document) also.read is.read)
 
     told : other ≡ count → another ≡ fault → accepted other another ≡ accepted count fault
     told counts faults = cc

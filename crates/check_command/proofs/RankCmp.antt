@@ -14,7 +14,8 @@ all_rise entries each i j none earlier within =
     Less-from_sorted rank_cmp entries i j none
     (sorted_from_all_adjacent rank_total entries none (λ k below. each k none below)) earlier within
 
-pub front_rises : (entries : List Entry) (n : ℕ) → n ≤ length entries → AllAdjacentBelow (λ one next. rank_cmp one next ≡ Less) entries n
+pub front_rises : (entries : List Entry) (n : ℕ) → n ≤ length entries
+    → AllAdjacentBelow (λ one next. rank_cmp one next ≡ Less) entries n
     → AllPairs (λ one later. rank_cmp one later ≡ Less) (take n entries)
 front_rises entries n within each =
     all_rise (take n entries) (λ k none below.

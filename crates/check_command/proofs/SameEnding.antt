@@ -25,7 +25,8 @@ equal_self Clean = refl
 equal_self (Refused there) = search rules
 
 -- what is known where the test that they differ answered no, and where it answered yes
-pub no_difference : (one other : Ending) (differ : Bool) → differ ≡ not (ghosts.eq one other) → differ ≡ false → one ≡ other
+pub no_difference : (one other : Ending) (differ : Bool) → differ ≡ not (ghosts.eq one other) → differ ≡ false
+    → one ≡ other
 no_difference one other differ told is = equal_same one other (not-false (ghosts.eq one other) (sym told ∙ is))
 
 pub difference : (one other : Ending) (differ : Bool) → differ ≡ not (ghosts.eq one other) → differ ≡ true → one ≢ other

@@ -1,5 +1,5 @@
--- Where a document differs first from the right ones of a text. Each kind of place is looked at over a whole section before
--- the next kind, and one section after the other.
+-- Where a document differs first from the right ones of a text. Each kind of place is looked at over a whole section
+-- before the next kind, and one section after the other.
 use Rattle.std.specs.Prelude.{◌≡◌, ◌≢◌, ◌<◌, ◌+◌, ◌⊎◌, ℕ, List, length, map, take, slice_get, Option, Some, ⊤}
 use Rattle.std.specs.List.{All, AllPairs}
 use Rattle.std.specs.List.Sorted.{IsPermutation}
@@ -70,9 +70,10 @@ pub record IsOrderPlace (entries : List Entry) (number : ℕ) : Type 0 where
   pub wrong : rank_cmp one next ≢ Less
   pub before : AllPairs (λ earlier later. rank_cmp earlier later ≡ Less) (take (place + 1) entries)
 
--- What is looked at in turn, each with all before it: the lists and the candidates, the errors, the sizes of the graphs, the
--- trees.
-pub record CandidatesFit (settings : SolveSettingsValue) (lists : List FormulaListValue) (solved : Solved) : Type 0 where
+-- What is looked at in turn, each with all before it: the lists and the candidates, the errors, the sizes of the
+-- graphs, the trees.
+pub record CandidatesFit (settings : SolveSettingsValue) (lists : List FormulaListValue)
+    (solved : Solved) : Type 0 where
   pub own_lists : solved.lists ≡ lists
   pub candidates : IsPermutation (candidates_of settings (list_at lists 0).formulas)
       (map (λ entry. entry.candidate) solved.entries)
@@ -93,14 +94,16 @@ pub record TreesFit (settings : SolveSettingsValue) (lists : List FormulaListVal
 abbrev pub IsSolvedPlace : SolveSettingsValue → List FormulaListValue → Solved → RejectPart → Type 0
 IsSolvedPlace settings lists solved (part.Lists number) = IsListsPlace lists solved.lists number
 IsSolvedPlace settings lists solved part.Candidates = (solved.lists ≡ lists)
-    × ¬ (IsPermutation (candidates_of settings (list_at lists 0).formulas) (map (λ entry. entry.candidate) solved.entries))
+    × ¬ (IsPermutation (candidates_of settings (list_at lists 0).formulas)
+    (map (λ entry. entry.candidate) solved.entries))
 IsSolvedPlace settings lists solved (part.Error number) =
     CandidatesFit settings lists solved × IsFirstWrong (ErrorIsRight settings lists) solved.entries number
 IsSolvedPlace settings lists solved (part.Outcome number) = ErrorsFit settings lists solved
     × IsFirstWrong (λ entry. SizeIsRight settings lists entry.candidate entry.outcome) solved.entries number
 IsSolvedPlace settings lists solved (part.Tree number place) =
     SizesFit settings lists solved × IsTreePlace settings lists solved.entries number place
-IsSolvedPlace settings lists solved (part.Order number) = TreesFit settings lists solved × IsOrderPlace solved.entries number
+IsSolvedPlace settings lists solved (part.Order number) = TreesFit settings lists solved
+    × IsOrderPlace solved.entries number
 IsSolvedPlace settings lists solved other = ⊥
 
 -- the first place where what stands of a spectrum differs from the right one for this outline
@@ -118,7 +121,8 @@ IsSectionPlace settings told section other = (section.line ≡ told.line) × (se
     × IsBodyPlace settings told.outline section.body other
 
 -- the text has a further section behind right ones
-pub record IsMissing (settings : SolveSettingsValue) (spectra : List SpectrumValue) (sections : List Section) (number : ℕ)
+pub record IsMissing (settings : SolveSettingsValue) (spectra : List SpectrumValue) (sections : List Section)
+    (number : ℕ)
     : Type 0 where
   pub before : OneEach (SectionIsRight settings) (take (length sections) spectra) sections
   pub fewer : length sections < length spectra
@@ -152,7 +156,8 @@ pub record IsInSection (settings : SolveSettingsValue) (spectra : List SpectrumV
   pub outlined : IsOutlined settings.listing spectrum told
   pub is_place : IsSectionPlace settings told section in_section
 
--- the first place where sections differ from the right ones of some spectra: the number of the section, from 1, and the part
+-- the first place where sections differ from the right ones of some spectra: the number of the section, from 1, and the
+-- part
 abbrev pub IsSectionsPlace : SolveSettingsValue → List SpectrumValue → List Section → ℕ → RejectPart → Type 0
 IsSectionsPlace settings spectra sections number part.Missing = IsMissing settings spectra sections number
 IsSectionsPlace settings spectra sections number part.Extra = IsExtra settings spectra sections number
@@ -160,7 +165,9 @@ IsSectionsPlace settings spectra sections number other = IsInSection settings sp
 
 -- The first place where a document differs from the right ones of a text with these spectra and this fault: in its
 -- sections, or else in the ending.
-abbrev pub IsDocumentPlace : SolveSettingsValue → List SpectrumValue → Option MgfFault → Document → ℕ → RejectPart → Type 0
-IsDocumentPlace settings spectra fault document number part.Ending = IsOtherEnding settings spectra fault document number
+abbrev pub IsDocumentPlace : SolveSettingsValue → List SpectrumValue → Option MgfFault → Document → ℕ → RejectPart
+    → Type 0
+IsDocumentPlace settings spectra fault document number part.Ending =
+    IsOtherEnding settings spectra fault document number
 IsDocumentPlace settings spectra fault document number other =
     IsSectionsPlace settings spectra document.sections number other

@@ -1,3 +1,4 @@
 pub mod CheckPlaces
+pub mod CheckOutcome
 pub mod CheckPromise
 pub mod inside

@@ -1,2 +1,3 @@
 pub mod CheckAnswers
 pub mod Checked
+pub mod NoMemory

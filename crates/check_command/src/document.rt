@@ -1,12 +1,16 @@
 //! Whether the bytes of a document spell one that is right for a text, and where not.
-ghost use Rattle.std.specs.Prelude.{◌≡◌, ◌≤◌, IfOk, length};
+ghost use Rattle.std.specs.Prelude.{◌≡◌, ◌≤◌, ◌<◌, ◌+◌, ℕ, List, IfOk, length};
 ghost use Rattle.frag_io.specs.declared.desk.Slot.TheVariants.{CertIn, Spectra};
 ghost use Rattle.std.specs.List.{AllByRecursion};
+ghost use Rattle.loss_graph.specs.Lists.{greatest_lists};
+ghost use Rattle.mgf_reader.specs.Grammar.{Reads};
+ghost use Rattle.mgf_reader.specs.Spectrum.{SpectrumValue};
 ghost use Rattle.tree_document.specs.Document.{EachCert, IsSmallCert, OfBody};
 ghost use Rattle.run_plan.specs.Limits.{greatest_text_of};
-ghost use Rattle.check_command.specs.CheckPromise.{IsOutcome};
+ghost use Rattle.check_command.specs.CheckOutcome.{IsOutcome};
 ghost use Rattle.check_command.specs.inside.CheckAnswers.{AreSectionsAnswer};
 ghost use Rattle.check_command.specs.inside.Checked.{IsComparison, check_outcome};
+ghost use Rattle.right_document.specs.SolveSettings.{SolveSettingsValue};
 ghost use Rattle.right_document.specs.SettingsOf.{solve_settings_value_of};
 
 use crate::section::section_place;
@@ -17,8 +21,8 @@ use std::alloc::{AllocError, Global};
 use tree_document::{CertFault, Document, Section, read_document};
 
 /// What a check finds of the bytes of a document: that they are refused, or where the document differs first from the
-/// right ones of the text, or that it is right, how many sections it has, and the line that refused the text, where there
-/// is one.
+/// right ones of the text, or that it is right, how many sections it has, and the line that refused the text, where
+/// there is one.
 #[derive(Drop)]
 pub enum Checked {
     Refused(CertFault),
@@ -35,7 +39,7 @@ pub fn check_text(
 ) -> Result<Checked, AllocError>
     requires short { length text.now ≤ greatest_text_of Spectra }
     requires document { length bytes.now ≤ greatest_text_of CertIn }
-    requires peaks { settings.now.listing.choice.peaks ≤ 40 }
+    requires peaks { settings.now.listing.choice.peaks + 1 < greatest_lists }
     ensures { IfOk result (λ checked.
         IsOutcome (solve_settings_value_of settings.now) text.now bytes.now (check_outcome checked)) }
 {
@@ -55,23 +59,39 @@ fn compare(
 ) -> Result<Checked, AllocError>
     requires short { length text.now ≤ greatest_text_of Spectra }
     requires few { length document.now.sections ≤ greatest_text_of CertIn }
-    requires peaks { settings.now.listing.choice.peaks ≤ 40 }
+    requires peaks { settings.now.listing.choice.peaks + 1 < greatest_lists }
     requires small { EachCert IsSmallCert document.now }
     ensures { IfOk result (IsComparison (solve_settings_value_of settings.now) text.now document.now) }
 {
     let mut reader = Reader::new(alloc)?;
     let fault = read_all(&mut reader, text)?;
+    let place = first_wrong_section(alloc, &mut reader, document.sections.items(), settings)?;
+    Ok(comparison(document, fault, place))
+}
+
+/// What a check finds of a document, by the first of its sections that is not right, where there is one, and by the
+/// fault of the text.
+fn comparison(
+    document: &Document,
+    fault: Option<MgfFault>,
+    wrong: Option<RejectPlace>,
+) -> Checked
+    requires few { length document.now.sections ≤ greatest_text_of CertIn }
+    ensures { (settings : SolveSettingsValue) (text : List ℕ) (spectra : List SpectrumValue)
+        → Reads text spectra fault → AreSectionsAnswer settings spectra document.now.sections wrong
+        → IsComparison settings text document.now result }
+{
     let sections = document.sections.items();
-    if let Some(place) = first_wrong_section(alloc, &mut reader, sections, settings)? {
-        return Ok(Checked::Rejected(place));
+    if let Some(place) = wrong {
+        return Checked::Rejected(place);
     }
     if document.ending != ending_of(fault) {
-        return Ok(Checked::Rejected(RejectPlace {
+        return Checked::Rejected(RejectPlace {
             section: sections.len() as u32 + 1,
             part: RejectPart::Ending,
-        }));
+        });
     }
-    Ok(Checked::Accepted(sections.len(), fault))
+    Checked::Accepted(sections.len(), fault)
 }
 
 /// The first section that is not right for the spectra that wait, or that one side alone has.
@@ -82,7 +102,7 @@ fn first_wrong_section(
     settings: &SolveSettings,
 ) -> Result<Option<RejectPlace>, AllocError>
     requires few { length sections.now ≤ greatest_text_of CertIn }
-    requires peaks { settings.now.listing.choice.peaks ≤ 40 }
+    requires peaks { settings.now.listing.choice.peaks + 1 < greatest_lists }
     requires small { AllByRecursion (λ section. OfBody IsSmallCert section.body) sections.now }
     ensures { IfOk result (AreSectionsAnswer (solve_settings_value_of settings.now) reader.old.waiting sections.now) }
 {

@@ -1,10 +1,11 @@
 //! Where the lists and entries of a section differ first from the right ones.
-ghost use Rattle.std.specs.Prelude.{◌≡◌, ◌≤◌, ◌↔◌, true, IfOk, MatchOption, Ok, length, map};
+ghost use Rattle.std.specs.Prelude.{◌≡◌, ◌≤◌, ◌<◌, ◌+◌, ◌↔◌, true, IfOk, MatchOption, Ok, length, map};
 ghost use Rattle.std.specs.List.{All, AllByRecursion, AllPairs};
 ghost use Rattle.std.specs.List.Sorted.{IsPermutation};
 ghost use Rattle.std.specs.declared.cmp.Ordering.TheVariants.{Less};
 ghost use Rattle.element_table.specs.Formula.{formula_cmp};
-ghost use Rattle.loss_graph.specs.Lists.{AreLists, list_at};
+ghost use Rattle.element_table.specs.FormulaList.{greatest_list};
+ghost use Rattle.loss_graph.specs.Lists.{AreLists, greatest_lists, list_at};
 ghost use Rattle.tree_entry.specs.Rank.{rank_cmp};
 ghost use Rattle.tree_document.specs.Document.{IsSmallCert, OfOutcome};
 ghost use Rattle.right_document.specs.Candidates.{candidates_of, ion_of};
@@ -30,7 +31,7 @@ pub fn solved_place(
     solved: &Solved,
     settings: &SolveSettings,
 ) -> Result<Option<RejectPart>, AllocError>
-    requires peaks { settings.now.listing.choice.peaks ≤ 40 }
+    requires peaks { settings.now.listing.choice.peaks + 1 < greatest_lists }
     requires own { AreOwnLists settings.now.listing.choice lists.now }
     requires small { AllByRecursion (λ entry. OfOutcome IsSmallCert entry.outcome) solved.now.entries }
     ensures { IfOk result (IsSolvedAnswer (solve_settings_value_of settings.now) lists.now solved.now) }
@@ -53,7 +54,7 @@ pub fn solved_place(
 
 /// The number, from 0, of the first list that differs, or that one side alone has.
 fn first_other_list(lists: &[FormulaList], own: &[FormulaList]) -> Option<u32>
-    requires few { length lists.now ≤ 41 }
+    requires few { length lists.now < greatest_lists }
     ensures { MatchOption result (own.now ≡ lists.now) (λ number. IsListsPlace lists.now own.now number) }
 {
     let shared = lists.len().min(own.len());
@@ -93,12 +94,12 @@ fn are_of_candidates(
     entries: &[Entry],
     settings: &SolveSettings,
 ) -> Result<bool, AllocError>
-    requires peaks { settings.now.listing.choice.peaks ≤ 40 }
+    requires peaks { settings.now.listing.choice.peaks + 1 < greatest_lists }
     requires own { AreOwnLists settings.now.listing.choice lists.now }
     ensures all { IfOk result (λ answer. (answer ≡ true) ↔ IsPermutation
         (candidates_of (solve_settings_value_of settings.now) (list_at lists.now 0).formulas)
         (map (λ entry. entry.candidate) entries.now)) }
-    ensures few { result ≡ Ok true → length entries.now ≤ 20000 }
+    ensures few { result ≡ Ok true → length entries.now ≤ greatest_list }
     ensures lists { result ≡ Ok true → All (λ entry. AreLists settings.now.listing.choice
         (ion_of (solve_settings_value_of settings.now) entry.candidate) lists.now) entries.now }
 {
@@ -136,7 +137,7 @@ fn first_wrong_error(
     entries: &[Entry],
     settings: &SolveSettings,
 ) -> Option<u32>
-    requires few { length entries.now ≤ 20000 }
+    requires few { length entries.now ≤ greatest_list }
     requires lists { All (λ entry. AreLists settings.now.listing.choice
         (ion_of (solve_settings_value_of settings.now) entry.candidate) lists.now) entries.now }
     ensures { MatchOption result (All (ErrorIsRight (solve_settings_value_of settings.now) lists.now) entries.now)
@@ -153,7 +154,7 @@ fn first_wrong_error(
 
 /// The number, from 1, of the first entry that may not follow the one before.
 fn first_wrong_order(entries: &[Entry]) -> Option<u32>
-    requires few { length entries.now ≤ 20000 }
+    requires few { length entries.now ≤ greatest_list }
     ensures { MatchOption result (AllPairs (λ one later. rank_cmp one later ≡ Less) entries.now)
         (λ number. IsOrderPlace entries.now number) }
 {

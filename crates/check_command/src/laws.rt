@@ -1,21 +1,22 @@
 //! Laws of the definitions, which a check of this crate proves.
-ghost use Rattle.std.specs.Prelude.{◌≡◌, ℕ, List, Option};
+ghost use Rattle.std.specs.Prelude.{◌≡◌, ℕ, List, Option, length};
 ghost use Rattle.mgf_reader.specs.Grammar.{Reads};
 ghost use Rattle.mgf_reader.specs.Spectrum.{SpectrumValue};
 ghost use Rattle.mgf_reader.specs.declared.fault.MgfFault.{MgfFault};
+ghost use Rattle.tree_document.specs.Document.{IsGood, spelling_of};
 ghost use Rattle.tree_document.specs.declared.document.Document.{Document};
 ghost use Rattle.right_document.specs.RightDocument.{DocumentIsRight};
 ghost use Rattle.right_document.specs.SolveSettings.{SolveSettingsValue};
 ghost use Rattle.check_command.specs.CheckPlaces.{IsDocumentPlace};
-ghost use Rattle.check_command.specs.CheckPromise.{CheckOutcome, IsOutcome, accepted};
+ghost use Rattle.check_command.specs.CheckOutcome.{CheckOutcome, IsOutcome, accepted};
 ghost use Rattle.run_plan.specs.declared.reject.RejectPart.{RejectPart};
 
 use mgf_reader::a_text_is_read_one_way;
 use right_document::a_spectrum_has_one_outline;
 use tree_document::bytes_read_one_way;
 
-/// A document that differs somewhere from the right ones of a text, in its sections or in its ending, is not right for the
-/// text. So a check tells such a place only of documents that are not right.
+/// A document that differs somewhere from the right ones of a text, in its sections or in its ending, is not right for
+/// the text. So a check tells such a place only of documents that are not right.
 pub fn a_rejected_document_is_not_right()
     ensures { (settings : SolveSettingsValue) (text : List ℕ) (spectra : List SpectrumValue)
         (fault another : Option MgfFault) (document : Document) (number : ℕ) (part : RejectPart)
@@ -35,4 +36,13 @@ pub fn what_is_accepted_is_nothing_else()
     bytes_read_one_way();
     a_text_is_read_one_way();
     a_rejected_document_is_not_right();
+}
+
+/// The spelling of a good document that is right for a text is accepted for the text.
+pub fn a_right_document_is_accepted()
+    ensures { (settings : SolveSettingsValue) (text : List ℕ) (fault : Option MgfFault) (document : Document)
+        → IsGood document → DocumentIsRight settings text fault document
+        → IsOutcome settings text (spelling_of document) (accepted (length document.sections) fault) }
+{
+    bytes_read_one_way();
 }

@@ -9,4 +9,6 @@ mod section;
 mod trees;
 
 pub use checking::check;
-pub use laws::{a_rejected_document_is_not_right, what_is_accepted_is_nothing_else};
+pub use laws::{
+    a_rejected_document_is_not_right, a_right_document_is_accepted, what_is_accepted_is_nothing_else,
+};

@@ -1,5 +1,6 @@
 //! Where a section of a document differs first from the right ones of its spectrum.
-ghost use Rattle.std.specs.Prelude.{◌≡◌, ◌≢◌, ◌≤◌, ◌⊎◌, IfOk, MatchBool};
+ghost use Rattle.std.specs.Prelude.{◌≡◌, ◌≢◌, ◌<◌, ◌+◌, ◌⊎◌, IfOk, MatchBool};
+ghost use Rattle.loss_graph.specs.Lists.{greatest_lists};
 ghost use Rattle.tree_document.specs.Document.{IsSmallCert, OfBody};
 ghost use Rattle.check_command.specs.inside.CheckAnswers.{IsBodyAnswer, IsSectionAnswer};
 ghost use Rattle.right_document.specs.Outlines.{HasOwnLists, outline_of};
@@ -19,7 +20,7 @@ pub fn section_place(
     section: &Section,
     settings: &SolveSettings,
 ) -> Result<Option<RejectPart>, AllocError>
-    requires peaks { settings.now.listing.choice.peaks ≤ 40 }
+    requires peaks { settings.now.listing.choice.peaks + 1 < greatest_lists }
     requires small { OfBody IsSmallCert section.now.body }
     ensures { IfOk result (IsSectionAnswer (solve_settings_value_of settings.now) spectrum.now section.now) }
 {
@@ -46,7 +47,7 @@ fn body_place(
     body: &Body,
     settings: &SolveSettings,
 ) -> Result<Option<RejectPart>, AllocError>
-    requires peaks { settings.now.listing.choice.peaks ≤ 40 }
+    requires peaks { settings.now.listing.choice.peaks + 1 < greatest_lists }
     requires lists { HasOwnLists settings.now.listing.choice (outline_of outline.now) }
     requires small { OfBody IsSmallCert body.now }
     ensures { IfOk result (IsBodyAnswer (solve_settings_value_of settings.now) (outline_of outline.now) body.now) }

@@ -1,10 +1,12 @@
 //! Where the graphs and trees of entries differ first from the right ones.
 ghost use Rattle.std.specs.Prelude.{◌≡◌, ◌≤◌, IfOk, length};
 ghost use Rattle.std.specs.List.{All, AllByRecursion};
+ghost use Rattle.colour_graph.specs.Graph.{greatest_graph};
+ghost use Rattle.element_table.specs.FormulaList.{greatest_list};
 ghost use Rattle.loss_graph.specs.Lists.{AreLists};
 ghost use Rattle.tree_document.specs.Document.{IsSmallCert, OfOutcome};
 ghost use Rattle.right_document.specs.Candidates.{ion_of};
-ghost use Rattle.check_command.specs.inside.CheckAnswers.{AreTreesAnswer, IsFinding};
+ghost use Rattle.check_command.specs.inside.CheckAnswers.{AreTreesAnswer, IsFinding, IsFindingOver, IsSizeFinding};
 ghost use Rattle.right_document.specs.SettingsOf.{solve_settings_value_of};
 
 use run_plan::RejectPart;
@@ -12,7 +14,7 @@ use right_document::SolveSettings;
 use entry_checker::{EntryVerdict, check_entry};
 use tree_entry::EntryPlace;
 use element_table::FormulaList;
-use loss_graph::{GraphFault, build};
+use loss_graph::{GraphFault, LossGraph, build};
 use std::alloc::{AllocError, Global};
 use tree_document::{Entry, Outcome};
 
@@ -35,7 +37,7 @@ pub fn trees_place(
     entries: &[Entry],
     settings: &SolveSettings,
 ) -> Result<Option<RejectPart>, AllocError>
-    requires few { length entries.now ≤ 20000 }
+    requires few { length entries.now ≤ greatest_list }
     requires lists { All (λ entry. AreLists settings.now.listing.choice
         (ion_of (solve_settings_value_of settings.now) entry.candidate) lists.now) entries.now }
     requires small { AllByRecursion (λ entry. OfOutcome IsSmallCert entry.outcome) entries.now }
@@ -67,29 +69,40 @@ fn finding_of(
     requires small { OfOutcome IsSmallCert entry.now.outcome }
     ensures { IfOk result (IsFinding (solve_settings_value_of settings.now) lists.now entry.now) }
 {
-    match (
-        build(
-            alloc,
-            lists,
-            &entry.candidate,
-            &settings.listing.choice,
-            settings.scores,
-        ),
-        &entry.outcome,
-    ) {
-        (Ok(built), Outcome::Tree(tree)) => match check_entry(
-            alloc,
-            &built,
-            tree,
-            settings.budget,
-        )? {
+    let choice = &settings.listing.choice;
+    match build(alloc, lists, &entry.candidate, choice, settings.scores) {
+        Ok(built) => finding_over(alloc, &built, &entry.outcome, settings.budget),
+        Err(GraphFault::TooLarge(vertices)) => Ok(size_finding(vertices, &entry.outcome)),
+        Err(GraphFault::OutOfMemory) => Err(AllocError),
+    }
+}
+
+/// What is found of an outcome over a graph that is not too large.
+fn finding_over(
+    alloc: Global,
+    built: &LossGraph,
+    outcome: &Outcome,
+    budget: u32,
+) -> Result<Finding, AllocError>
+    requires vertices { length built.now.graph.colours ≤ greatest_graph }
+    requires small { OfOutcome IsSmallCert outcome.now }
+    ensures { IfOk result (IsFindingOver built.now budget outcome.now) }
+{
+    match outcome {
+        Outcome::Tree(tree) => match check_entry(alloc, built, tree, budget)? {
             EntryVerdict::Right => Ok(Finding::Right),
             EntryVerdict::Wrong(place) => Ok(Finding::Tree(place)),
         },
-        (Err(GraphFault::TooLarge(vertices)), Outcome::TooLarge(told)) if vertices == *told => {
-            Ok(Finding::Right)
-        }
-        (Err(GraphFault::OutOfMemory), _) => Err(AllocError),
-        _ => Ok(Finding::Size),
+        Outcome::TooLarge(_) => Ok(Finding::Size),
+    }
+}
+
+/// What is found of an outcome where the graph has so many vertices, too many for a tree.
+fn size_finding(vertices: u32, outcome: &Outcome) -> Finding
+    ensures { IsSizeFinding vertices outcome.now result }
+{
+    match outcome {
+        Outcome::TooLarge(told) if *told == vertices => Finding::Right,
+        _ => Finding::Size,
     }
 }

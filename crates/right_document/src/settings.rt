@@ -21,8 +21,8 @@ pub struct RunSettings {
     pub sieve: Sieve,
 }
 
-/// What trees are found and checked under: what lists are made under, the rules that a candidate has to pass, the tables
-/// of scores, and the budget of splits.
+/// What trees are found and checked under: what lists are made under, the rules that a candidate has to pass, the
+/// tables of scores, and the budget of splits.
 #[derive(Drop)]
 pub struct SolveSettings<'a> {
     pub listing: RunSettings,

@@ -3,7 +3,7 @@ use Rattle.std.proofs.Common.{◌≡◌, ◌+◌, ◌<◌, ◌≤◌, ◌⊎◌,
 use Rattle.std.proofs.lemmas.Bool.{cases_eq, cases_lt}
 use Rattle.colour_graph.proofs.Order.{colours-rise}
 use Rattle.colour_graph.specs.declared.edge.Edge.{Edge}
-use Rattle.colour_graph.specs.Graph.{Graph, HasColours, IsEdge, IsGraph, StandsBefore, edge_at}
+use Rattle.colour_graph.specs.Graph.{Graph, HasColours, IsEdge, IsGraph, StandsBefore, edge_at, greatest_graph}
 
 -- how many pairs of a vertex and a smaller one there are, the greater of which is below this one
 abbrev pairs_below : ℕ → ℕ
@@ -14,7 +14,8 @@ pairs-rise : (vertex later : ℕ) → vertex < later → pairs_below vertex + ve
 pairs-rise vertex zero before = absurd (omega arith)
 pairs-rise vertex (suc later) before = choose (cases_eq vertex later) (pairs-rise vertex later)
   where
-    choose : (vertex ≡ later) ⊎ (vertex ≡ later → ⊥) → (vertex < later → pairs_below vertex + vertex ≤ pairs_below later)
+    choose : (vertex ≡ later) ⊎ (vertex ≡ later → ⊥)
+        → (vertex < later → pairs_below vertex + vertex ≤ pairs_below later)
         → pairs_below vertex + vertex ≤ pairs_below later + later
     choose (inl same) rise = omega (arith, same, ap pairs_below same)
     choose (inr apart) rise = omega (arith, rise (omega arith))
@@ -41,7 +42,8 @@ tail-lt_head graph edge has is = choose (cases_lt edge.tail edge.head)
     choose (inl below) = below
     choose (inr above) = absurd (omega (arith, is.rising, colours-rise graph has edge.head edge.tail above is.tail))
 
-place-le_rank : (graph : Graph) → IsGraph graph → (edge : ℕ) → edge < length graph.edges → edge ≤ rank_of (edge_at graph edge)
+place-le_rank : (graph : Graph) → IsGraph graph → (edge : ℕ) → edge < length graph.edges
+    → edge ≤ rank_of (edge_at graph edge)
 place-le_rank graph is zero within = omega arith
 place-le_rank graph is (suc edge) within =
     let here : edge < length graph.edges = omega arith in
@@ -53,12 +55,14 @@ place-le_rank graph is (suc edge) within =
       rises (edge_at graph edge) (edge_at graph (suc edge)) low (is.in_order edge (suc edge) none (omega arith) within),
     )
 
--- an edge of a graph of at most 512 vertices is below the number of its pairs
-pub edge-few : (graph : Graph) → IsGraph graph → length graph.colours ≤ 512 → (edge : ℕ) → edge < length graph.edges → edge ≤ 131071
+-- an edge of a graph of few vertices is below the number of its pairs
+pub edge-few : (graph : Graph) → IsGraph graph → length graph.colours ≤ greatest_graph → (edge : ℕ)
+    → edge < length graph.edges
+    → edge ≤ 131071
 edge-few graph is few edge within =
     let here = edge_at graph edge in
     let is_edge = is.edges edge (record { tail = 0; head = 0; weight = pos 0 }) within in
     let low : here.tail < here.head = tail-lt_head graph here is.colours is_edge in
-    let head : here.head < 512 = omega (arith, is_edge.head) in
-    let all : pairs_below 512 ≡ 130816 = refl in
-    omega (arith, low, all, place-le_rank graph is edge within, pairs-rise here.head 512 head)
+    let head : here.head < greatest_graph = omega (arith, is_edge.head) in
+    let all : pairs_below greatest_graph ≡ 130816 = refl in
+    omega (arith, low, all, place-le_rank graph is edge within, pairs-rise here.head greatest_graph head)

@@ -1,4 +1,8 @@
-pub mod MadeSections
-pub mod SolvePromise
-pub mod EdgeCount
-pub mod GoodTrees
+mod EdgeCount
+mod AreGoodLines
+mod GoodSections
+mod GoodEntries
+mod GoodTrees
+mod SolvedIsRight
+mod MadeSections
+mod SolvePromise

@@ -1,7 +1,7 @@
 -- `IsMade`: how the sections of a document and of its report follow one another.
 use Rattle.std.proofs.Common.{◌≡◌, ◌++◌, ℕ, List, [], ◌∷◌, Option, refl, sym, ◌∙◌, ap, append_assoc, append-nil}
 use Rattle.std.proofs.lemmas.List.Elements.{All-from_recursion}
-use Rattle.std.specs.List.{flat_map}
+use Rattle.std.specs.List.{AllByRecursion, flat_map}
 use Rattle.mgf_reader.specs.Grammar.{Reads}
 use Rattle.mgf_reader.specs.Spectrum.{SpectrumValue}
 use Rattle.mgf_reader.specs.declared.fault.MgfFault.{MgfFault}
@@ -15,8 +15,24 @@ use Rattle.right_document.specs.OneEach.{OneEach}
 use Rattle.right_document.specs.RightSection.{SectionIsRight}
 use Rattle.right_document.specs.SolveSettings.{SolveSettingsValue}
 use Rattle.solve_command.specs.inside.Made.{IsMade, IsMadeSection}
-use Rattle.right_document.proofs.GoodSections.{document_is_good}
-use Rattle.right_document.proofs.OneEach.{HandedOut, OneEach-has, OneEach-right, handed_none, handed_more, handed_all, told_more}
+use Rattle.solve_command.proofs.GoodSections.{document_is_good}
+use Rattle.right_document.proofs.OneEach.{HandedOut, handed_none, handed_more, handed_all, told_more}
+
+-- where each of the others is right and has a fact of its own, all are right, and all have the fact
+OneEach-right : {X Y : Type 0} (IsRight : X → Y → Type 0) (Has : Y → Type 0) (items : List X) (others : List Y)
+    → OneEach (λ item other. IsRight item other × Has other) items others → OneEach IsRight items others
+OneEach-right IsRight Has [] [] each = tt
+OneEach-right IsRight Has [] (other ∷ others) each = absurd each
+OneEach-right IsRight Has (item ∷ items) [] each = absurd each
+OneEach-right IsRight Has (item ∷ items) (other ∷ others) each =
+    (each.0.0, OneEach-right IsRight Has items others each.1)
+
+OneEach-has : {X Y : Type 0} (IsRight : X → Y → Type 0) (Has : Y → Type 0) (items : List X) (others : List Y)
+    → OneEach (λ item other. IsRight item other × Has other) items others → AllByRecursion Has others
+OneEach-has IsRight Has [] [] each = tt
+OneEach-has IsRight Has [] (other ∷ others) each = absurd each
+OneEach-has IsRight Has (item ∷ items) [] each = absurd each
+OneEach-has IsRight Has (item ∷ items) (other ∷ others) each = (each.0.1, OneEach-has IsRight Has items others each.1)
 
 -- the lines of a section, as bytes
 abbrev pub spelled : Section → List ℕ
@@ -47,7 +63,8 @@ pub made_more : (settings : SolveSettingsValue) (all waiting rest : List Spectru
 made_more settings all waiting rest document now next report told more spectrum section made taken is lines text =
     record {
       sections = made.sections ++ section ∷ [];
-      handed = handed_more (IsMadeSection settings) all waiting rest made.sections spectrum section made.handed taken is;
+      handed = handed_more (IsMadeSection settings) all waiting rest made.sections spectrum section made.handed taken
+          is;
       written = told_more spelled made.sections section document now next made.written lines;
       reported = told_more section_text_of made.sections section report told more made.reported text;
     }
@@ -57,7 +74,8 @@ pub made_all : (settings : SolveSettingsValue) (all waiting : List SpectrumValue
     → (sections : List Section) × OneEach (IsMadeSection settings) all sections
     × (now ≡ document ++ flat_map spelled sections) × (told ≡ report ++ flat_map section_text_of sections)
 made_all settings all waiting document now report told made none =
-    (made.sections, handed_all (IsMadeSection settings) all waiting made.sections made.handed none, made.written, made.reported)
+    (made.sections, handed_all (IsMadeSection settings) all waiting made.sections made.handed none, made.written,
+    made.reported)
 
 abbrev has_good_lines : Section → Type 0
 has_good_lines section = AreGoodLines (section_lines section)
@@ -73,7 +91,8 @@ pub parts_are_made : (settings : SolveSettingsValue) (text : List ℕ) (spectra 
     → whole ≡ now ++ text_of (ending_line (ending_of fault) ∷ [])
     → told ≡ flat_map section_text_of sections → reported ≡ told ++ ending_text_of (ending_of fault)
     → IsMade settings text fault whole reported
-parts_are_made settings text spectra fault sections header now whole told reported parts reads each end head lines all text_is report_is =
+parts_are_made settings text spectra fault sections header now whole told reported parts reads each end head lines all
+    text_is report_is =
     let document : Document = record { sections = sections; ending = ending_of fault } in
     record {
       document = document;
@@ -84,11 +103,13 @@ parts_are_made settings text spectra fault sections header now whole told report
         ending = refl;
       };
       good = document_is_good document
-          (All-from_recursion has_good_lines sections (OneEach-has (SectionIsRight settings) has_good_lines spectra sections each)) end;
+          (All-from_recursion has_good_lines sections
+          (OneEach-has (SectionIsRight settings) has_good_lines spectra sections each)) end;
       is_spelled = all
           ∙ ap (λ (bytes : List ℕ). bytes ++ text_of (ending_line (ending_of fault) ∷ []))
           (lines ∙ ap (λ (bytes : List ℕ). bytes ++ flat_map spelled sections) head)
-          ∙ append_assoc (text_of (header_line ∷ [])) (flat_map spelled sections) (text_of (ending_line (ending_of fault) ∷ []))
+          ∙ append_assoc (text_of (header_line ∷ [])) (flat_map spelled sections)
+          (text_of (ending_line (ending_of fault) ∷ []))
           ∙ sym (parts document);
       is_reported = report_is ∙ ap (λ (bytes : List ℕ). bytes ++ ending_text_of (ending_of fault)) text_is;
     }

@@ -13,14 +13,12 @@ use Rattle.right_document.specs.RightDocument.{DocumentIsRight}
 use Rattle.solve_command.specs.RightPart.{PartIsRight}
 use Rattle.right_document.specs.SolveSettings.{SolveSettingsValue, solve_settings_of}
 use Rattle.run_plan.specs.TextPromise.{TextPromise}
-use Rattle.check_command.specs.CheckPromise.{IsOutcome}
-use Rattle.check_command.specs.CheckPromise as check
 use Rattle.run_plan.specs.declared.status.Status.{Status}
 use Rattle.run_plan.specs.declared.status.Status.TheVariants.{Done, MgfRefused}
 
--- The text is read with this fault, and there is a right document for it, which has a spelling: where they are told, what
--- was written to the document's slot is its spelling, which a check accepts, and what was written to the report's slot the
--- report of the same document.
+-- The text is read with this fault, and there is a right document for it, which has a spelling: where they are told,
+-- what was written to the document's slot is its spelling, and what was written to the report's slot the report of the
+-- same document.
 pub record IsSolved (settings : SolveSettingsValue) (text : List ℕ) (fault : Option MgfFault)
     (written : Slot → Option (List ℕ)) : Type 0 where
   pub document : Document
@@ -28,8 +26,6 @@ pub record IsSolved (settings : SolveSettingsValue) (text : List ℕ) (fault : O
   pub good : IsGood document
   pub spelled : IfSome (written CertOut) (λ bytes. bytes ≡ spelling_of document)
   pub reported : IfSome (written Report) (λ bytes. bytes ≡ report_text_of document)
-  pub accepted : IfSome (written CertOut)
-      (λ bytes. IsOutcome settings text bytes (check.accepted (length document.sections) fault))
 
 -- which status answers a text, with which document and report
 abbrev pub SolveAnswers : SolveSettingsValue → List ℕ → Status → (Slot → Option (List ℕ)) → Type 0

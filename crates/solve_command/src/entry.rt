@@ -1,10 +1,12 @@
 //! The entry of a candidate: its best tree with a certificate, or that its graph is too large.
-ghost use Rattle.std.specs.Prelude.{◌≡◌, ◌≤◌, ℕ, IfOk, length, slice_index};
+ghost use Rattle.std.specs.Prelude.{◌≡◌, ◌≤◌, ◌+◌, ℕ, IfOk, length, slice_index};
 ghost use Rattle.tree_entry.specs.EntryIsRight.{EntryIsRight};
 ghost use Rattle.colour_graph.specs.Bounded.{IsBounded};
 ghost use Rattle.colour_graph.specs.EdgeSet.{all_edges};
-ghost use Rattle.colour_graph.specs.Graph.{colour_count};
+ghost use Rattle.colour_graph.specs.Graph.{colour_count, greatest_graph};
 ghost use Rattle.loss_graph.specs.Lists.{AreLists};
+ghost use Rattle.profile.specs.Profile.{greatest_peaks};
+ghost use Rattle.tree_certificate.specs.TableHolds.{greatest_colours};
 ghost use Rattle.tree_document.specs.Document.{AreGoodLines, entry_lines};
 ghost use Rattle.tree_document.specs.declared.entry.Outcome.TheVariants as outcomes;
 ghost use Rattle.right_document.specs.Candidates.{ion_of};
@@ -21,7 +23,7 @@ use subset_tree::solve_small;
 use tree_certificate::Cert;
 use tree_document::{Entry, Mark, Outcome, Tree, TreeRows};
 
-/// The entry of a candidate over the lists of its spectrum, of at most 12 peaks.
+/// The entry of a candidate over the lists of its spectrum, one list more than selected peaks.
 pub fn entry_of(
     alloc: Global,
     lists: &[FormulaList],
@@ -30,7 +32,7 @@ pub fn entry_of(
 ) -> Result<Entry, AllocError>
     requires lists { AreLists settings.now.listing.choice
         (ion_of (solve_settings_value_of settings.now) candidate.now) lists.now }
-    requires few { length lists.now ≤ 13 }
+    requires few { length lists.now ≤ greatest_peaks + 1 }
     ensures entry { IfOk result (λ entry. IsRightEntry (solve_settings_value_of settings.now) lists.now entry) }
     ensures candidate { IfOk result (λ entry. entry.candidate ≡ candidate.now) }
     ensures good { IfOk result (λ entry. AreGoodLines (entry_lines entry)) }
@@ -53,7 +55,7 @@ fn outcome_of(
 ) -> Result<Outcome, AllocError>
     requires lists { AreLists settings.now.listing.choice
         (ion_of (solve_settings_value_of settings.now) candidate.now) lists.now }
-    requires few { length lists.now ≤ 13 }
+    requires few { length lists.now ≤ greatest_peaks + 1 }
     ensures right { IfOk result (λ outcome.
         OutcomeIsRight (solve_settings_value_of settings.now) lists.now candidate.now outcome) }
     ensures good { IfOk result HasGoodLines }
@@ -79,11 +81,11 @@ fn too_large(vertices: u32) -> Outcome
     Outcome::TooLarge(vertices)
 }
 
-/// A best tree of a candidate's graph of at most 12 colours, with the table that proves it best.
+/// A best tree of a candidate's graph of few colours, with the table that proves it best.
 fn best_tree(alloc: Global, built: &LossGraph) -> Result<Tree, AllocError>
-    requires colours { colour_count built.now.graph ≤ 12 }
-    requires vertices { length built.now.graph.colours ≤ 512 }
-    requires peaks { (colour : ℕ) → slice_index built.now.peaks colour ≤ 512 }
+    requires colours { colour_count built.now.graph ≤ greatest_colours }
+    requires vertices { length built.now.graph.colours ≤ greatest_graph }
+    requires peaks { (colour : ℕ) → slice_index built.now.peaks colour ≤ greatest_peaks }
     ensures entry { (budget : ℕ) → IfOk result (λ tree. EntryIsRight built.now tree budget) }
     ensures bounded { IfOk result (λ tree. IsBounded built.now.graph (all_edges built.now.graph) tree.upper) }
     ensures good { IfOk result (λ tree. HasGoodLines (outcomes.Tree tree)) }

@@ -1,8 +1,9 @@
 //! The section of a spectrum: its lists and an entry for each candidate, or why it is skipped.
-ghost use Rattle.std.specs.Prelude.{◌≡◌, ◌≤◌, IfOk, IsTrue, length, map};
+ghost use Rattle.std.specs.Prelude.{◌≡◌, ◌≤◌, ◌+◌, IfOk, IsTrue, length, map};
 ghost use Rattle.std.specs.List.{All};
 ghost use Rattle.element_table.specs.Formula.{IsFormula};
 ghost use Rattle.loss_graph.specs.Lists.{AreLists};
+ghost use Rattle.profile.specs.Profile.{greatest_peaks};
 ghost use Rattle.tree_document.specs.Document.{AreGoodLines, body_lines, entry_lines, section_lines};
 ghost use Rattle.tree_document.specs.Title.{are_bytes};
 ghost use Rattle.tree_document.specs.declared.document.Body.TheVariants as bodies;
@@ -25,7 +26,7 @@ pub fn section_of(
     spectrum: Spectrum,
     settings: &SolveSettings,
 ) -> Result<Section, AllocError>
-    requires peaks { settings.now.listing.choice.peaks ≤ 12 }
+    requires peaks { settings.now.listing.choice.peaks ≤ greatest_peaks }
     ensures right { IfOk result (λ section. SectionIsRight (solve_settings_value_of settings.now) spectrum section) }
     ensures good { IfOk result (λ section. AreGoodLines (section_lines section)) }
 {
@@ -58,7 +59,7 @@ fn solved_of(
     settings: &SolveSettings,
 ) -> Result<Solved, AllocError>
     requires own { AreOwnLists settings.now.listing.choice lists.items }
-    requires few { length lists.items ≤ 13 }
+    requires few { length lists.items ≤ greatest_peaks + 1 }
     ensures right { IfOk result (λ solved. SolvedIsRight (solve_settings_value_of settings.now) lists.items solved) }
     ensures good { IfOk result (λ solved. AreGoodLines (body_lines (bodies.Solved solved))) }
 {
@@ -82,7 +83,7 @@ fn entries_of(
 ) -> Result<Vec<Entry>, AllocError>
     requires lists { All (λ candidate. AreLists settings.now.listing.choice
         (ion_of (solve_settings_value_of settings.now) candidate) lists.now) candidates.now }
-    requires few { length lists.now ≤ 13 }
+    requires few { length lists.now ≤ greatest_peaks + 1 }
     ensures right { IfOk result (λ entries.
         All (IsRightEntry (solve_settings_value_of settings.now) lists.now) entries.items) }
     ensures candidates { IfOk result (λ entries. map (λ entry. entry.candidate) entries.items ≡ candidates.now) }

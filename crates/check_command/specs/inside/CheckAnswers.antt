@@ -1,12 +1,19 @@
 -- What is answered of the parts of a section as a document is checked.
-use Rattle.std.specs.Prelude.{List, Option, Some, None}
+use Rattle.std.specs.Prelude.{◌≡◌, ◌≢◌, ℕ, List, Option, Some, None, ⊤}
 use Rattle.std.specs.List.{All}
+use Rattle.colour_graph.specs.Bounded.{IsBounded}
+use Rattle.colour_graph.specs.EdgeSet.{all_edges}
 use Rattle.element_table.specs.FormulaList.{FormulaListValue}
+use Rattle.entry_checker.specs.EntryPlaces.{IsEntryPlace}
+use Rattle.loss_graph.specs.LossGraph.{LossGraphValue}
 use Rattle.mgf_reader.specs.Spectrum.{SpectrumValue}
 use Rattle.tree_document.specs.declared.document.Body.{Body}
 use Rattle.tree_document.specs.declared.document.Section.{Section}
 use Rattle.tree_document.specs.declared.document.Solved.{Solved}
 use Rattle.tree_document.specs.declared.entry.Entry.{Entry}
+use Rattle.tree_document.specs.declared.entry.Outcome.{Outcome}
+use Rattle.tree_document.specs.declared.entry.Outcome.TheVariants as outcome
+use Rattle.tree_entry.specs.EntryIsRight.{EntryIsRight}
 use Rattle.right_document.specs.OneEach.{OneEach}
 use Rattle.right_document.specs.Outline.{OutlineValue}
 use Rattle.right_document.specs.Outlined.{IsOutlined, Outlined}
@@ -27,9 +34,24 @@ IsFinding settings lists entry finding.Size = ¬ (SizeIsRight settings lists ent
 IsFinding settings lists entry (finding.Tree place) = SizeIsRight settings lists entry.candidate entry.outcome
     × IsPlaceIn settings lists entry.candidate entry.outcome place
 
+-- what is found of an outcome over a graph that is not too large, and where it has so many vertices, which are too many
+abbrev pub IsFindingOver : LossGraphValue → ℕ → Outcome → Finding → Type 0
+IsFindingOver built budget (outcome.Tree tree) finding.Right =
+    EntryIsRight built tree budget × IsBounded built.graph (all_edges built.graph) tree.upper
+IsFindingOver built budget (outcome.Tree tree) (finding.Tree place) = IsEntryPlace built tree budget place
+IsFindingOver built budget (outcome.TooLarge told) finding.Size = ⊤
+IsFindingOver built budget outcome finding = ⊥
+
+abbrev pub IsSizeFinding : ℕ → Outcome → Finding → Type 0
+IsSizeFinding vertices (outcome.TooLarge told) finding.Right = vertices ≡ told
+IsSizeFinding vertices (outcome.TooLarge told) finding.Size = vertices ≢ told
+IsSizeFinding vertices (outcome.Tree tree) finding.Size = ⊤
+IsSizeFinding vertices outcome finding = ⊥
+
 -- what is answered of the sizes of graphs and the trees of entries
 abbrev pub AreTreesAnswer : SolveSettingsValue → List FormulaListValue → List Entry → Option RejectPart → Type 0
-AreTreesAnswer settings lists entries None = All (λ entry. OutcomeIsRight settings lists entry.candidate entry.outcome) entries
+AreTreesAnswer settings lists entries None =
+    All (λ entry. OutcomeIsRight settings lists entry.candidate entry.outcome) entries
 AreTreesAnswer settings lists entries (Some (part.Outcome number)) =
     IsFirstWrong (λ entry. SizeIsRight settings lists entry.candidate entry.outcome) entries number
 AreTreesAnswer settings lists entries (Some (part.Tree number place)) =
@@ -37,8 +59,8 @@ AreTreesAnswer settings lists entries (Some (part.Tree number place)) =
     × IsTreePlace settings lists entries number place
 AreTreesAnswer settings lists entries other = ⊥
 
--- what is answered of lists and entries, of what stands of a spectrum, and of a section: the first place that differs, or
--- none where all is right
+-- what is answered of lists and entries, of what stands of a spectrum, and of a section: the first place that differs,
+-- or none where all is right
 abbrev pub IsSolvedAnswer : SolveSettingsValue → List FormulaListValue → Solved → Option RejectPart → Type 0
 IsSolvedAnswer settings lists solved None = SolvedIsRight settings lists solved
 IsSolvedAnswer settings lists solved (Some place) = IsSolvedPlace settings lists solved place
@@ -56,4 +78,5 @@ IsSectionAnswer settings spectrum section (Some place) =
 -- ending aside
 abbrev pub AreSectionsAnswer : SolveSettingsValue → List SpectrumValue → List Section → Option RejectPlace → Type 0
 AreSectionsAnswer settings spectra sections None = OneEach (SectionIsRight settings) spectra sections
-AreSectionsAnswer settings spectra sections (Some place) = IsSectionsPlace settings spectra sections place.section place.part
+AreSectionsAnswer settings spectra sections (Some place) =
+    IsSectionsPlace settings spectra sections place.section place.part

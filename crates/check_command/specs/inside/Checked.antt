@@ -4,13 +4,10 @@ use Rattle.mgf_reader.specs.Grammar.{Reads}
 use Rattle.mgf_reader.specs.Spectrum.{SpectrumValue}
 use Rattle.mgf_reader.specs.declared.fault.MgfFault.{MgfFault}
 use Rattle.tree_document.specs.declared.document.Document.{Document}
-use Rattle.tree_document.specs.declared.fault.CertFault.TheVariants.{OutOfMemory}
 use Rattle.right_document.specs.RightDocument.{DocumentIsRight}
 use Rattle.right_document.specs.SolveSettings.{SolveSettingsValue}
 use Rattle.check_command.specs.CheckPlaces.{IsDocumentPlace}
-use Rattle.check_command.specs.CheckPromise.{CheckOutcome, accepted, refused, rejected}
-use Rattle.run_plan.specs.declared.status.Status.{Status}
-use Rattle.run_plan.specs.declared.status.Status.TheVariants.{DocumentRefused}
+use Rattle.check_command.specs.CheckOutcome.{CheckOutcome, accepted, refused, rejected}
 use Rattle.check_command.specs.declared.document.Checked.{Checked}
 use Rattle.check_command.specs.declared.document.Checked.TheVariants.{Refused, Rejected, Accepted}
 
@@ -27,8 +24,3 @@ IsComparison settings text document (Rejected place) =
     × IsDocumentPlace settings spectra fault document place.section place.part
 IsComparison settings text document (Accepted count fault) =
     DocumentIsRight settings text fault document × (count ≡ length document.sections)
-
--- a document is told as refused for want of memory, which no run does
-abbrev pub IsNoMemory : Status → Type 0
-IsNoMemory (DocumentRefused fault) = fault ≡ OutOfMemory
-IsNoMemory status = ⊥

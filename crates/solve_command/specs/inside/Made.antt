@@ -12,7 +12,8 @@ use Rattle.right_document.specs.SolveSettings.{SolveSettingsValue}
 
 -- a section that is made for a spectrum: it is right, and its lines have a spelling
 abbrev pub IsMadeSection : SolveSettingsValue → SpectrumValue → Section → Type 0
-IsMadeSection settings spectrum section = SectionIsRight settings spectrum section × AreGoodLines (section_lines section)
+IsMadeSection settings spectrum section = SectionIsRight settings spectrum section
+    × AreGoodLines (section_lines section)
 
 -- the spelling and the report of one right document for a text that is read with this fault
 pub record IsMade (settings : SolveSettingsValue) (text : List ℕ) (fault : Option MgfFault) (spelled reported : List ℕ)

@@ -6,32 +6,40 @@ use Rattle.check_command.proofs.checking.check.Goals as goal
 
 pub returns-in-Ok-check_under-clause-promise : goal.returns-in-Ok-check_under-clause-promise
 returns-in-Ok-check_under-clause-promise g c =
-    taken_check (document_names_of c.args.names.now) (g.D.Desk.state c.args.desk.now) (g.D.Desk.state c.take_profile.new.desk)
-    (g.D.Desk.state c.check_under.new.desk) _ _ c.in-Ok.ensures.taken (c.in-Ok.ensures.runs.gives _) (c.in-Ok.ensures.runs.gives _)
+    taken_check (document_names_of c.args.names.now) (g.D.Desk.state c.args.desk.now)
+    (g.D.Desk.state c.take_profile.new.desk)
+    (g.D.Desk.state c.check_under.new.desk) _ _ c.in-Ok.ensures.taken (c.in-Ok.ensures.runs.gives _)
+    (c.in-Ok.ensures.runs.gives _)
     c.in-Ok-check_under.ensures.texts c.in-Ok-check_under.ensures.refusal
 
 pub returns-clause-promise : goal.returns-clause-promise
 returns-clause-promise g c =
-    taken_check (document_names_of c.args.names.now) (g.D.Desk.state c.args.desk.now) (g.D.Desk.state c.take_profile.new.desk)
-    (g.D.Desk.state c.check_under.new.desk) _ _ c.in-Ok.ensures.taken (c.in-Ok.ensures.runs.gives _) (c.in-Ok.ensures.runs.gives _)
+    taken_check (document_names_of c.args.names.now) (g.D.Desk.state c.args.desk.now)
+    (g.D.Desk.state c.take_profile.new.desk)
+    (g.D.Desk.state c.check_under.new.desk) _ _ c.in-Ok.ensures.taken (c.in-Ok.ensures.runs.gives _)
+    (c.in-Ok.ensures.runs.gives _)
     c.in-Err-check_under.ensures.texts c.in-Err-check_under.ensures.refusal
 
 pub returns-in-Ok-check_under-clause-ends : goal.returns-in-Ok-check_under-clause-ends
 returns-in-Ok-check_under-clause-ends g c =
-    c.in-Ok-check_under.ensures.ends (profile_begin (document_names_of c.args.names.now).profile) (g.D.Desk.state c.args.desk.now)
+    c.in-Ok-check_under.ensures.ends (profile_begin (document_names_of c.args.names.now).profile)
+    (g.D.Desk.state c.args.desk.now)
     c.in-Ok.ensures.runs c.in-Ok.ensures.whole
 
 pub returns-clause-ends : goal.returns-clause-ends
 returns-clause-ends g c =
-    c.in-Err-check_under.ensures.ends (profile_begin (document_names_of c.args.names.now).profile) (g.D.Desk.state c.args.desk.now)
+    c.in-Err-check_under.ensures.ends (profile_begin (document_names_of c.args.names.now).profile)
+    (g.D.Desk.state c.args.desk.now)
     c.in-Ok.ensures.runs c.in-Ok.ensures.whole
 
 pub returns-in-Ok-check_under-clause-profile : goal.returns-in-Ok-check_under-clause-profile
 returns-in-Ok-check_under-clause-profile g c =
-    taken_promise (document_names_of c.args.names.now).profile (g.D.Desk.state c.args.desk.now) (g.D.Desk.state c.check_under.new.desk) _ _
+    taken_promise (document_names_of c.args.names.now).profile (g.D.Desk.state c.args.desk.now)
+    (g.D.Desk.state c.check_under.new.desk) _ _
     c.in-Ok.ensures.taken c.in-Ok-check_under.ensures.own
 
 pub returns-clause-profile : goal.returns-clause-profile
 returns-clause-profile g c =
-    taken_promise (document_names_of c.args.names.now).profile (g.D.Desk.state c.args.desk.now) (g.D.Desk.state c.check_under.new.desk) _ _
+    taken_promise (document_names_of c.args.names.now).profile (g.D.Desk.state c.args.desk.now)
+    (g.D.Desk.state c.check_under.new.desk) _ _
     c.in-Ok.ensures.taken c.in-Err-check_under.ensures.own

@@ -5,7 +5,7 @@ use Rattle.frag_io.specs.declared.desk.Slot.TheVariants.{Spectra, CertIn}
 use Rattle.run_plan.specs.Begins.{Begin}
 use Rattle.run_plan.specs.Limits.{greatest_text_of}
 use Rattle.order_words.specs.Orders.{read_begin, text_begins}
-use Rattle.check_command.specs.CheckPromise.{IsOutcome}
+use Rattle.check_command.specs.CheckOutcome.{IsOutcome}
 use Rattle.check_command.specs.inside.Checked.{check_outcome}
 use Rattle.right_document.specs.SettingsOf.{solve_settings_value_of}
 use Rattle.check_command.specs.declared.document.Checked.{Checked}
@@ -27,7 +27,8 @@ returns-in_err-bytes-clause-ends g c = λ done before runs whole.
     (c.requires.only CertIn (λ is. cc)) refl (c.in_ok-text.ensures.unread refl) in
     let p = err_from_is_err_and c.from_residual-in_err-bytes.result c.from_residual-in_err-bytes.ensures.1 in
     rw (p.1, p.2) (ends_all order before (g.D.Desk.state c.read_text.new.desk) _
-    (c.in_err-bytes.ensures.ends order [] before (c.in_ok-text.ensures.runs done before runs) unread c.read_spectra.ensures.unwritten
+    (c.in_err-bytes.ensures.ends order [] before (c.in_ok-text.ensures.runs done before runs) unread
+    c.read_spectra.ensures.unwritten
     (λ other. refl)))
 
 pub returns-in_err-fault-clause-ends : goal.returns-in_err-fault-clause-ends
@@ -46,11 +47,13 @@ returns-in-Refused-clause-ends g c = λ done before runs whole.
     let unread = text_unread done (text_begins c.args.name.now (Some (read_begin c.args.document.now))) before
     (g.D.Desk.state c.args.desk.now) (g.D.Desk.state c.read_spectra.new.desk) CertIn c.args.document.now runs
     (c.requires.only CertIn (λ is. cc)) refl (c.in_ok-text.ensures.unread refl) in
-    let read = whole_read done before (g.D.Desk.state c.read_spectra.new.desk) (g.D.Desk.state c.read_text.new.desk) c.args.name.now
+    let read = whole_read done before (g.D.Desk.state c.read_spectra.new.desk) (g.D.Desk.state c.read_text.new.desk)
+    c.args.name.now
     c.args.document.now c.in_ok-bytes.bytes.items (c.in_ok-text.ensures.whole done before runs whole)
     c.read_text.ensures.keeps.others_left unread c.in_ok-bytes.ensures.text in
     ends_all order before (g.D.Desk.state c.read_text.new.desk) (DocumentRefused c.in-Refused.fault)
-    (refused_ends order [] before (g.D.Desk.state c.read_text.new.desk) CertIn (DocumentRefused c.in-Refused.fault) refl refl
+    (refused_ends order [] before (g.D.Desk.state c.read_text.new.desk) CertIn (DocumentRefused c.in-Refused.fault) refl
+    refl
     (λ other. refl)
     (c.in_ok-bytes.ensures.runs order before (c.in_ok-text.ensures.runs done before runs) unread) read
     (c.read_text.ensures.begun CertIn ∙ c.in_ok-text.ensures.begun.documents CertIn tt)
@@ -62,11 +65,13 @@ returns-in-Rejected-clause-ends g c = λ done before runs whole.
     let unread = text_unread done (text_begins c.args.name.now (Some (read_begin c.args.document.now))) before
     (g.D.Desk.state c.args.desk.now) (g.D.Desk.state c.read_spectra.new.desk) CertIn c.args.document.now runs
     (c.requires.only CertIn (λ is. cc)) refl (c.in_ok-text.ensures.unread refl) in
-    let read = whole_read done before (g.D.Desk.state c.read_spectra.new.desk) (g.D.Desk.state c.read_text.new.desk) c.args.name.now
+    let read = whole_read done before (g.D.Desk.state c.read_spectra.new.desk) (g.D.Desk.state c.read_text.new.desk)
+    c.args.name.now
     c.args.document.now c.in_ok-bytes.bytes.items (c.in_ok-text.ensures.whole done before runs whole)
     c.read_text.ensures.keeps.others_left unread c.in_ok-bytes.ensures.text in
     ends_all order before (g.D.Desk.state c.read_text.new.desk) (DocumentRejected c.in-Rejected.place)
-    (refused_ends order [] before (g.D.Desk.state c.read_text.new.desk) CertIn (DocumentRejected c.in-Rejected.place) refl refl
+    (refused_ends order [] before (g.D.Desk.state c.read_text.new.desk) CertIn (DocumentRejected c.in-Rejected.place)
+    refl refl
     (λ other. refl)
     (c.in_ok-bytes.ensures.runs order before (c.in_ok-text.ensures.runs done before runs) unread) read
     (c.read_text.ensures.begun CertIn ∙ c.in_ok-text.ensures.begun.documents CertIn tt)
@@ -78,7 +83,8 @@ returns-clause-ends g c = λ done before runs whole.
     let unread = text_unread done (text_begins c.args.name.now (Some (read_begin c.args.document.now))) before
     (g.D.Desk.state c.args.desk.now) (g.D.Desk.state c.read_spectra.new.desk) CertIn c.args.document.now runs
     (c.requires.only CertIn (λ is. cc)) refl (c.in_ok-text.ensures.unread refl) in
-    let read = whole_read done before (g.D.Desk.state c.read_spectra.new.desk) (g.D.Desk.state c.read_text.new.desk) c.args.name.now
+    let read = whole_read done before (g.D.Desk.state c.read_spectra.new.desk) (g.D.Desk.state c.read_text.new.desk)
+    c.args.name.now
     c.args.document.now c.in_ok-bytes.bytes.items (c.in_ok-text.ensures.whole done before runs whole)
     c.read_text.ensures.keeps.others_left unread c.in_ok-bytes.ensures.text in
     c.tell_accepted.ensures.ends order before
@@ -89,9 +95,11 @@ returns-clause-texts g c =
     at_some ((g.D.Desk.state c.args.desk.now).gives c.args.name.now) _ (λ text told.
     at_some ((g.D.Desk.state c.args.desk.now).gives c.args.document.now) _ (λ bytes told_bytes.
     let is = MatchOption-at_some _ _ text told c.in_ok-text.ensures.text in
-    let is_bytes = (MatchOption-at_some _ _ bytes (c.in_ok-text.ensures.unread refl ∙ told_bytes) c.in_ok-bytes.ensures.text).0 in
+    let is_bytes = (MatchOption-at_some _ _ bytes (c.in_ok-text.ensures.unread refl ∙ told_bytes)
+    c.in_ok-bytes.ensures.text).0 in
     c.tell_accepted.ensures.texts _ text bytes
     (subst (λ (t : List ℕ). length t ≤ greatest_text_of Spectra) (sym is) c.in_ok-text.ensures.short)
     (rw (is ∙ sym c.deref.ensures.value, is_bytes ∙ sym c.deref-2.ensures.value)
-    (subst (λ (checked : Checked). IsOutcome (solve_settings_value_of c.args.settings.now) c.deref.result.now c.deref-2.result.now
+    (subst (λ (checked : Checked). IsOutcome (solve_settings_value_of c.args.settings.now) c.deref.result.now
+    c.deref-2.result.now
     (check_outcome checked)) c.in-Accepted.is c.in_ok-fault.ensures))))

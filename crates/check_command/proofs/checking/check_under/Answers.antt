@@ -7,7 +7,9 @@ use Rattle.check_command.proofs.checking.check_under.Goals as goal
 
 pub returns-clause-texts : goal.returns-clause-texts
 returns-clause-texts g c =
-    subst (λ (settings : SolveSettingsValue). IfSome ((g.D.Desk.state c.args.desk.now).gives c.args.names.now.spectra.now) (λ text.
+    subst (λ (settings : SolveSettingsValue). IfSome
+    ((g.D.Desk.state c.args.desk.now).gives c.args.names.now.spectra.now) (λ text.
     IfSome ((g.D.Desk.state c.args.desk.now).gives c.args.names.now.document.now) (λ bytes.
-    OwesText (check_meaning settings text bytes) text (g.D.Desk.state c.check_steps.new.desk) (status_of c.check_steps.result))))
+    OwesText (check_meaning settings text bytes) text (g.D.Desk.state c.check_steps.new.desk)
+    (status_of c.check_steps.result))))
     c.solve_settings-settings.ensures.value c.check_steps.ensures.texts

@@ -16,7 +16,8 @@ loop-spectrum-preserved g c =
           (let found = w.in-Some-get.ensures.lookup in
           compared_more settings _ _ _ _ _ _ w.in-Some-get.section.now c.loop-spectrum.invariant c.in-Some.ensures.taken
           (slice_get_read _ _ _ _ refl found.3.0 found.1)
-          (subst (IsSectionAnswer settings c.in-Some.spectrum w.in-Some-get.section.now) (sym w.part-is ∙ c.in_default-part.is)
+          (subst (IsSectionAnswer settings c.in-Some.spectrum w.in-Some-get.section.now)
+          (sym w.part-is ∙ c.in_default-part.is)
           w.in_ok-part-in-Some-get.ensures))
       | in-None w ↦ absurd (none-some _ (sym c.in_default-part.is ∙ w.part-is))
     ]
@@ -27,13 +28,16 @@ returns-in-Some-part g c =
     elim c.match-get.branch [
       | in-Some-get+in_ok-part-in-Some-get w ↦
           (let found = w.in-Some-get.ensures.lookup in
-          compared_inside settings _ _ _ _ _ _ w.in-Some-get.section.now _ c.loop-spectrum.invariant c.in-Some.ensures.taken
+          compared_inside settings _ _ _ _ _ _ w.in-Some-get.section.now _ c.loop-spectrum.invariant
+          c.in-Some.ensures.taken
           (slice_get_read _ _ _ _ refl found.3.0 found.1)
-          (subst (IsSectionAnswer settings c.in-Some.spectrum w.in-Some-get.section.now) (sym w.part-is ∙ c.in-Some-part.is)
+          (subst (IsSectionAnswer settings c.in-Some.spectrum w.in-Some-get.section.now)
+          (sym w.part-is ∙ c.in-Some-part.is)
           w.in_ok-part-in-Some-get.ensures))
       | in-None w ↦
           subst (IsSectionsPlace settings _ _ _) (same_Some part.Missing _ (sym w.part-is ∙ c.in-Some-part.is))
-          (compared_missing settings _ _ _ _ _ _ c.loop-spectrum.invariant c.in-Some.ensures.taken w.in-None.ensures.lookup.3)
+          (compared_missing settings _ _ _ _ _ _ c.loop-spectrum.invariant c.in-Some.ensures.taken
+          w.in-None.ensures.lookup.3)
     ]
 
 pub returns-then-number-sections : goal.returns-then-number-sections

@@ -16,14 +16,16 @@ one_way one later below above =
     cc
 
 -- formulas that rise strictly stand in one order alone
-same_order : (formulas moved : List (List ℕ)) → AllPairs IsBelow formulas → AllPairs IsBelow moved → IsPermutation formulas moved
+same_order : (formulas moved : List (List ℕ)) → AllPairs IsBelow formulas → AllPairs IsBelow moved
+    → IsPermutation formulas moved
     → moved ≡ formulas
 same_order formulas moved rising rises same =
     same_from_members IsBelow one_way moved formulas
     (Rising-from_AllPairs IsBelow moved rises)
     (Rising-from_AllPairs IsBelow formulas rising)
     (λ formula there. In-from_Contains formula formulas
-    (Contains-permutation moved formulas formula (IsPermutation-sym formulas moved same) (Contains-from_In formula moved there)))
+    (Contains-permutation moved formulas formula (IsPermutation-sym formulas moved same)
+    (Contains-from_In formula moved there)))
     (λ formula there. In-from_Contains formula moved
     (Contains-permutation formulas moved formula same (Contains-from_In formula formulas there)))
 
@@ -35,7 +37,8 @@ returns c =
     let moved : IsPermutation told sorted = c.sort_unstable.ensures.permutation in
     let read : c.deref.result.now ≡ sorted = c.deref.ensures.value in
     rw (← c.in_ok-own.ensures) (
-      (λ is. subst (λ own. IsPermutation own told) (sym read ∙ c.are_same_formulas.ensures.0 is) (IsPermutation-sym told sorted moved)),
+      (λ is. subst (λ own. IsPermutation own told) (sym read ∙ c.are_same_formulas.ensures.0 is)
+      (IsPermutation-sym told sorted moved)),
       (λ same.
           let all = IsPermutation-trans candidates told sorted same moved in
           let apart = rising_apart candidates c.requires.rising in

@@ -21,7 +21,8 @@ returns-then-entry-ion_error g c = record {
   place = c.loop-place.place;
   numbered = refl;
   item = c.index-entries-place.result;
-  is_item = slice_get_read c.args.entries.now _ _ c.index-entries-place.result refl c.loop-place-test.true c.index-entries-place.is;
+  is_item = slice_get_read c.args.entries.now _ _ c.index-entries-place.result refl c.loop-place-test.true
+      c.index-entries-place.is;
   wrong = λ right. c.if-entry-ion_error.true (right ∙ sym c.ion_error.ensures);
   before = c.loop-place.invariant;
 }
@@ -29,7 +30,8 @@ returns-then-entry-ion_error g c = record {
 pub loop-place-preserved : goal.loop-place-preserved
 loop-place-preserved g c =
     let Right = ErrorIsRight (solve_settings_value_of c.args.settings.now) c.args.lists.now in
-    All-more Right c.args.entries.now c.loop-place.place c.index-entries-place.result c.loop-place-test.true c.loop-place.invariant
+    All-more Right c.args.entries.now c.loop-place.place c.index-entries-place.result c.loop-place-test.true
+    c.loop-place.invariant
     (subst Right c.index-entries-place.is (c.if-entry-ion_error.false ∙ c.ion_error.ensures))
 
 pub returns : goal.returns

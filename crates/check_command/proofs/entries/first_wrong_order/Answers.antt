@@ -16,7 +16,8 @@ returns-then-ne c =
       one = c.index-entries-place.result;
       next = c.index-entries-place-in-loop-place.result;
       is_one = slice_get_read entries _ _ _ refl (omega arith) c.index-entries-place.is;
-      is_next = rw here (slice_get_read entries _ _ _ refl c.loop-place-test.true c.index-entries-place-in-loop-place.is);
+      is_next = rw here (slice_get_read entries _ _ _ refl c.loop-place-test.true
+          c.index-entries-place-in-loop-place.is);
       wrong = λ less.
           let tied : c.compare_entries.result ≡ Less = c.compare_entries.ensures ∙ less in
           let both : true ≡ false = c.if-ne.ensures ∙ ap (λ order. not (ordering_index order == 0)) tied in

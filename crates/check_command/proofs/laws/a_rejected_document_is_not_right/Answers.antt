@@ -4,5 +4,6 @@ use Rattle.check_command.proofs.laws.a_rejected_document_is_not_right.Goals as g
 
 pub returns : goal.returns
 returns c settings text spectra fault another document number place reads is right =
-    not_right no_entry_place c.a_spectrum_has_one_outline.ensures c.a_text_is_read_one_way.ensures.whole settings text spectra
+    not_right no_entry_place c.a_spectrum_has_one_outline.ensures c.a_text_is_read_one_way.ensures.whole settings text
+    spectra
     fault another document number place reads is right

@@ -10,7 +10,8 @@ use Rattle.check_command.proofs.section.section_place.Goals as goal
 pub returns-then-not-has_line_and_title : goal.returns-then-not-has_line_and_title
 returns-then-not-has_line_and_title g c =
     let spectrum = c.args.spectrum.now in
-    let told : Outlined = record { line = spectrum.line; title = spectrum.title; outline = outline_of c.in_ok-outline.outline } in (
+    let told : Outlined =
+    record { line = spectrum.line; title = spectrum.title; outline = outline_of c.in_ok-outline.outline } in (
       told,
       record { line = refl; title = refl; outline = c.in_ok-outline.ensures.outline },
       c.if-not-has_line_and_title.ensures,
@@ -23,7 +24,8 @@ returns g c =
     let section = c.args.section.now in
     let outline = outline_of c.in_ok-outline.outline in
     let told : Outlined = record { line = spectrum.line; title = spectrum.title; outline = outline } in
-    IfOk-weaker c.body_place.result (IsBodyAnswer settings outline section.body) (IsSectionAnswer settings spectrum section)
+    IfOk-weaker c.body_place.result (IsBodyAnswer settings outline section.body)
+    (IsSectionAnswer settings spectrum section)
     (section_answer settings spectrum section told
     (record { line = refl; title = refl; outline = c.in_ok-outline.ensures.outline })
     c.if-not-has_line_and_title.ensures.0 c.if-not-has_line_and_title.ensures.1)

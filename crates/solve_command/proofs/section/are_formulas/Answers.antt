@@ -8,9 +8,11 @@ use Rattle.solve_command.proofs.section.are_formulas.Goals as goal
 
 pub loop-list-preserved : goal.loop-list-preserved
 loop-list-preserved c =
-    All-more (λ (list : FormulaListValue). All IsFormula list.formulas) c.args.lists.now c.loop-list.list-index c.list-item.result
+    All-more (λ (list : FormulaListValue). All IsFormula list.formulas) c.args.lists.now c.loop-list.list-index
+    c.list-item.result
     c.loop-list-test.true c.loop-list.invariant
-    (subst (λ (list : FormulaListValue). All IsFormula list.formulas) (c.list.view_is ∙ c.list-item.is) c.items-formulas.ensures.formulas)
+    (subst (λ (list : FormulaListValue). All IsFormula list.formulas) (c.list.view_is ∙ c.list-item.is)
+    c.items-formulas.ensures.formulas)
 
 pub returns : goal.returns
 returns c =

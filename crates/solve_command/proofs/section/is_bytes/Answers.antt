@@ -1,5 +1,5 @@
 use Rattle.std.proofs.Common.{arith}
-use Rattle.right_document.proofs.GoodLines.{title_is_bytes}
+use Rattle.solve_command.proofs.AreGoodLines.{title_is_bytes}
 use Rattle.solve_command.proofs.section.is_bytes.Goals as goal
 
 pub returns : goal.returns

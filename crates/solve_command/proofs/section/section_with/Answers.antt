@@ -1,6 +1,6 @@
 use Rattle.std.proofs.Common.{arith, true, List, ℕ, ◌≡◌, subst}
 use Rattle.tree_document.specs.Title.{are_bytes}
-use Rattle.right_document.proofs.GoodSections.{section_is_good}
+use Rattle.solve_command.proofs.GoodSections.{section_is_good}
 use Rattle.solve_command.proofs.section.section_with.Goals as goal
 
 pub returns-clause-good : goal.returns-clause-good

@@ -8,42 +8,53 @@ use Rattle.solve_command.proofs.solving.solve.Goals as goal
 
 pub returns-in-Err-clause-promise : goal.returns-in-Err-clause-promise
 returns-in-Err-clause-promise g c =
-    stopped_text (λ profile text. solve_meaning (solve_settings_of profile (document_names_of c.args.names.now).adduct) text)
-    (document_names_of c.args.names.now).profile (document_names_of c.args.names.now).spectra (g.D.Desk.state c.args.desk.now)
+    stopped_text (λ profile text. solve_meaning (solve_settings_of profile (document_names_of c.args.names.now).adduct)
+    text)
+    (document_names_of c.args.names.now).profile (document_names_of c.args.names.now).spectra
+    (g.D.Desk.state c.args.desk.now)
     (g.D.Desk.state c.take_profile.new.desk) c.in-Err.status
-    (c.take_profile.ensures.unwritten (λ slot written. g.met.D.Desk.unbegun_is_empty c.args.desk.now slot written (c.requires slot)))
+    (c.take_profile.ensures.unwritten
+    (λ slot written. g.met.D.Desk.unbegun_is_empty c.args.desk.now slot written (c.requires slot)))
     c.in-Err.ensures.own c.in-Err.ensures.accepted
 
 pub returns-in-Ok-solve_under-clause-promise : goal.returns-in-Ok-solve_under-clause-promise
 returns-in-Ok-solve_under-clause-promise g c =
-    taken_text (λ profile text. solve_meaning (solve_settings_of profile (document_names_of c.args.names.now).adduct) text)
-    (document_names_of c.args.names.now).profile (document_names_of c.args.names.now).spectra (g.D.Desk.state c.args.desk.now)
+    taken_text (λ profile text. solve_meaning (solve_settings_of profile (document_names_of c.args.names.now).adduct)
+    text)
+    (document_names_of c.args.names.now).profile (document_names_of c.args.names.now).spectra
+    (g.D.Desk.state c.args.desk.now)
     (g.D.Desk.state c.take_profile.new.desk) (g.D.Desk.state c.solve_under.new.desk) _ _
     c.in-Ok.ensures.taken (c.in-Ok.ensures.runs.gives _) c.in-Ok-solve_under.ensures.text
 
 pub returns-clause-promise : goal.returns-clause-promise
 returns-clause-promise g c =
-    taken_text (λ profile text. solve_meaning (solve_settings_of profile (document_names_of c.args.names.now).adduct) text)
-    (document_names_of c.args.names.now).profile (document_names_of c.args.names.now).spectra (g.D.Desk.state c.args.desk.now)
+    taken_text (λ profile text. solve_meaning (solve_settings_of profile (document_names_of c.args.names.now).adduct)
+    text)
+    (document_names_of c.args.names.now).profile (document_names_of c.args.names.now).spectra
+    (g.D.Desk.state c.args.desk.now)
     (g.D.Desk.state c.take_profile.new.desk) (g.D.Desk.state c.solve_under.new.desk) _ _
     c.in-Ok.ensures.taken (c.in-Ok.ensures.runs.gives _) c.in-Err-solve_under.ensures.text
 
 pub returns-in-Ok-solve_under-clause-ends : goal.returns-in-Ok-solve_under-clause-ends
 returns-in-Ok-solve_under-clause-ends g c =
-    c.in-Ok-solve_under.ensures.ends (profile_begin (document_names_of c.args.names.now).profile) (g.D.Desk.state c.args.desk.now)
+    c.in-Ok-solve_under.ensures.ends (profile_begin (document_names_of c.args.names.now).profile)
+    (g.D.Desk.state c.args.desk.now)
     c.in-Ok.ensures.runs c.in-Ok.ensures.whole
 
 pub returns-clause-ends : goal.returns-clause-ends
 returns-clause-ends g c =
-    c.in-Err-solve_under.ensures.ends (profile_begin (document_names_of c.args.names.now).profile) (g.D.Desk.state c.args.desk.now)
+    c.in-Err-solve_under.ensures.ends (profile_begin (document_names_of c.args.names.now).profile)
+    (g.D.Desk.state c.args.desk.now)
     c.in-Ok.ensures.runs c.in-Ok.ensures.whole
 
 pub returns-in-Ok-solve_under-clause-profile : goal.returns-in-Ok-solve_under-clause-profile
 returns-in-Ok-solve_under-clause-profile g c =
-    taken_promise (document_names_of c.args.names.now).profile (g.D.Desk.state c.args.desk.now) (g.D.Desk.state c.solve_under.new.desk) _ _
+    taken_promise (document_names_of c.args.names.now).profile (g.D.Desk.state c.args.desk.now)
+    (g.D.Desk.state c.solve_under.new.desk) _ _
     c.in-Ok.ensures.taken c.in-Ok-solve_under.ensures.own
 
 pub returns-clause-profile : goal.returns-clause-profile
 returns-clause-profile g c =
-    taken_promise (document_names_of c.args.names.now).profile (g.D.Desk.state c.args.desk.now) (g.D.Desk.state c.solve_under.new.desk) _ _
+    taken_promise (document_names_of c.args.names.now).profile (g.D.Desk.state c.args.desk.now)
+    (g.D.Desk.state c.solve_under.new.desk) _ _
     c.in-Ok.ensures.taken c.in-Err-solve_under.ensures.own
