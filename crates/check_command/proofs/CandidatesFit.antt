@@ -16,31 +16,31 @@ module _ (settings : SolveSettingsValue) (lists : List FormulaListValue)
     (own : AreOwnLists settings.listing.choice lists)
     (entries : List Entry)
     (same : IsPermutation (candidates_of settings (list_at lists 0).formulas) (map (λ entry. entry.candidate) entries))
-    where
-  abbrev candidates : List (List ℕ)
-  candidates = candidates_of settings (list_at lists 0).formulas
+  where
+    abbrev candidates : List (List ℕ)
+    candidates = candidates_of settings (list_at lists 0).formulas
 
-  abbrev told : List (List ℕ)
-  told = map (λ (entry : Entry). entry.candidate) entries
+    abbrev told : List (List ℕ)
+    told = map (λ (entry : Entry). entry.candidate) entries
 
-  pub entries_few : length entries ≤ greatest_list
-  entries_few =
-      let formulas_few : length (list_at lists 0).formulas ≤ greatest_list = (own.each 0 _ own.some).few in
-      omega (
-        arith,
-        length-map entries (λ (entry : Entry). entry.candidate),
-        length_permutation candidates told same,
-        candidates_few settings (list_at lists 0).formulas,
-      )
+    pub entries_few : length entries ≤ greatest_list
+    entries_few =
+        let formulas_few : length (list_at lists 0).formulas ≤ greatest_list = (own.each 0 _ own.some).few in
+        omega (
+          arith,
+          length-map entries (λ (entry : Entry). entry.candidate),
+          length_permutation candidates told same,
+          candidates_few settings (list_at lists 0).formulas,
+        )
 
-  pub entries_stand : length lists < greatest_lists
-      → All (λ entry. AreLists settings.listing.choice (ion_of settings entry.candidate) lists) entries
-  entries_stand few k none within =
-      subst Stands (get_or-map (λ (entry : Entry). entry.candidate) entries k none none.candidate within)
-      (all k none.candidate (omega (arith, length-map entries (λ (entry : Entry). entry.candidate))))
-    where
-      Stands : List ℕ → Type 0
-      Stands candidate = AreLists settings.listing.choice (ion_of settings candidate) lists
+    pub entries_stand : length lists < greatest_lists
+        → All (λ entry. AreLists settings.listing.choice (ion_of settings entry.candidate) lists) entries
+    entries_stand few k none within =
+        subst Stands (get_or-map (λ (entry : Entry). entry.candidate) entries k none none.candidate within)
+        (all k none.candidate (omega (arith, length-map entries (λ (entry : Entry). entry.candidate))))
+      where
+        Stands : List ℕ → Type 0
+        Stands candidate = AreLists settings.listing.choice (ion_of settings candidate) lists
 
-      all : All Stands told
-      all = All-permutation Stands candidates told same (graphs_stand settings lists own candidates refl few)
+        all : All Stands told
+        all = All-permutation Stands candidates told same (graphs_stand settings lists own candidates refl few)

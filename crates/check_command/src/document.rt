@@ -14,9 +14,9 @@ ghost use Rattle.right_document.specs.SolveSettings.{SolveSettingsValue};
 ghost use Rattle.right_document.specs.SettingsOf.{solve_settings_value_of};
 
 use crate::section::section_place;
+use mgf_reader::{MgfFault, Reader};
 use right_document::{SolveSettings, ending_of};
 use run_plan::{RejectPart, RejectPlace, read_all};
-use mgf_reader::{MgfFault, Reader};
 use std::alloc::{AllocError, Global};
 use tree_document::{CertFault, Document, Section, read_document};
 
@@ -71,11 +71,7 @@ fn compare(
 
 /// What a check finds of a document, by the first of its sections that is not right, where there is one, and by the
 /// fault of the text.
-fn comparison(
-    document: &Document,
-    fault: Option<MgfFault>,
-    wrong: Option<RejectPlace>,
-) -> Checked
+fn comparison(document: &Document, fault: Option<MgfFault>, wrong: Option<RejectPlace>) -> Checked
     requires few { length document.now.sections ≤ greatest_text_of CertIn }
     ensures { (settings : SolveSettingsValue) (text : List ℕ) (spectra : List SpectrumValue)
         → Reads text spectra fault → AreSectionsAnswer settings spectra document.now.sections wrong

@@ -15,14 +15,14 @@ ghost use Rattle.check_command.specs.inside.CheckAnswers.{IsSolvedAnswer};
 ghost use Rattle.right_document.specs.Outlines.{AreOwnLists};
 ghost use Rattle.right_document.specs.SettingsOf.{solve_settings_value_of};
 
-use right_document::{SolveSettings, candidates, ion_error};
 use crate::trees::trees_place;
-use run_plan::RejectPart;
 use element_table::{Formula, FormulaList, sorted_formulas_rise};
-use tree_entry::compare_entries;
+use right_document::{SolveSettings, candidates, ion_error};
+use run_plan::RejectPart;
 use std::alloc::{AllocError, Global};
 use std::cmp::Ordering;
 use tree_document::{Entry, Solved};
+use tree_entry::compare_entries;
 
 /// The first part of lists and entries that differs from the right ones for the lists of a spectrum, if one does.
 pub fn solved_place(

@@ -10,5 +10,6 @@ mod trees;
 
 pub use checking::check;
 pub use laws::{
-    a_rejected_document_is_not_right, a_right_document_is_accepted, what_is_accepted_is_nothing_else,
+    a_rejected_document_is_not_right, a_right_document_is_accepted,
+    what_is_accepted_is_nothing_else,
 };

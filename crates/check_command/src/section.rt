@@ -7,9 +7,9 @@ ghost use Rattle.right_document.specs.Outlines.{HasOwnLists, outline_of};
 ghost use Rattle.right_document.specs.SettingsOf.{solve_settings_value_of};
 
 use crate::entries::solved_place;
+use mgf_reader::Spectrum;
 use right_document::{Outline, SolveSettings, read_outline};
 use run_plan::RejectPart;
-use mgf_reader::Spectrum;
 use std::alloc::{AllocError, Global};
 use tree_document::{Body, Section};
 

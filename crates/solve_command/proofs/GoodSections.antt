@@ -1,30 +1,22 @@
 -- `section_lines`: the lines of lists, of what stands of a spectrum, and of a section.
-use Rattle.std.proofs.Common.{◌≡◌, ◌≤◌, ◌<◌, ◌∷◌, ◌^◌, [], ℕ, List, length, map, Bool, true, false, cond, Option, Some}
-use Rattle.std.proofs.Common.{None, refl, ap, arith}
+use Rattle.std.proofs.Common.{◌≡◌, ◌≤◌, ◌<◌, ◌∷◌, ◌^◌, [], ℕ, List, length, map, true}
+use Rattle.std.proofs.Common.{refl, arith}
 use Rattle.std.proofs.lemmas.List.{length-map}
 use Rattle.std.proofs.lemmas.List.Sorted.{length_permutation}
 use Rattle.std.specs.List.{All, flat_map}
 use Rattle.std.specs.List.Sorted.{IsPermutation}
-use Rattle.std.specs.Option.{ForSome, option_map_or}
-use Rattle.adducts.specs.Charges.{charges_fit}
-use Rattle.adducts.specs.Fit.{fit_at, fit_of, is_in_range}
 use Rattle.adducts.specs.declared.choice.Choice.{Choice}
-use Rattle.adducts.specs.declared.outcome.Fit.TheVariants as Found
 use Rattle.element_table.specs.Formula.{IsFormula}
-use Rattle.element_table.specs.FormulaList.{FormulaListValue}
+use Rattle.element_table.specs.FormulaList.{FormulaListValue, greatest_list}
 use Rattle.loss_graph.specs.Lists.{IsList}
-use Rattle.mgf_reader.specs.Spectrum.{SpectrumValue}
-use Rattle.mgf_reader.specs.Fault.{kind_number}
-use Rattle.mgf_reader.specs.declared.fault.MgfKind.{MgfKind}
 use Rattle.tree_document.specs.Document.{AreGoodLines, IsGood, IsGoodLine, body_lines, ending_line, entry_lines}
 use Rattle.tree_document.specs.Document.{list_lines, section_lines}
 use Rattle.tree_document.specs.Line.{done_line, entries_line, formula_line, header_line, list_line, lists_line}
-use Rattle.tree_document.specs.Line.{refused_line, skip_line, spectrum_line}
+use Rattle.tree_document.specs.Line.{spectrum_line}
 use Rattle.tree_document.specs.Title.{are_bytes}
 use Rattle.tree_document.specs.declared.document.Body.TheVariants.{Solved}
 use Rattle.tree_document.specs.declared.document.Document.{Document}
 use Rattle.tree_document.specs.declared.document.Section.{Section}
-use Rattle.tree_document.specs.declared.document.Skip.TheVariants.{Range, TooMany}
 use Rattle.tree_document.specs.declared.document.Solved.{Solved as SolvedRead}
 use Rattle.tree_document.specs.declared.entry.Entry.{Entry}
 use Rattle.right_document.specs.Candidates.{candidates_of}
@@ -38,8 +30,10 @@ list_is_good : (choice : Choice) (list : FormulaListValue) → IsList choice lis
 list_is_good choice list is formulas = (
   line_is_good (list_line list.mz list.intensity (length list.formulas)) refl (
     within (10 ^ 18) list.mz is.mz (omega arith),
-    (within (10 ^ 18) list.intensity is.intensity (omega arith),
-    (within greatest_list (length list.formulas) is.few (omega arith), tt)),
+    (
+      within (10 ^ 18) list.intensity is.intensity (omega arith),
+      (within greatest_list (length list.formulas) is.few (omega arith), tt),
+    ),
   ),
   good-map formula_line list.formulas (λ k d before. line_is_good (formula_line _) refl (formulas k d before, tt)),
 )
@@ -52,11 +46,11 @@ pub solved_is_good : (choice : Choice) (solved : SolvedRead) → 0 < length solv
 solved_is_good choice solved some few lists formulas few_entries entries = (
   line_is_good (lists_line (length solved.lists)) refl ((some, few, omega arith), tt),
   good-append (flat_map list_lines solved.lists)
-  (entries_line (length solved.entries) ∷ flat_map entry_lines solved.entries)
+      (entries_line (length solved.entries) ∷ flat_map entry_lines solved.entries)
       (good-flat_map list_lines solved.lists
       (λ k d before. list_is_good choice _ (lists k d before) (formulas k d before))) (
         line_is_good (entries_line (length solved.entries)) refl
-        (within greatest_list (length solved.entries) few_entries (omega arith), tt),
+            (within greatest_list (length solved.entries) few_entries (omega arith), tt),
         good-flat_map entry_lines solved.entries entries,
       ),
 )
@@ -80,7 +74,7 @@ pub section_is_good : (section : Section) → section.line ≤ 4294967295 → ar
     → AreGoodLines (body_lines section.body) → AreGoodLines (section_lines section)
 section_is_good section few title body = (
   line_is_good (spectrum_line section.line section.title) refl
-  (within 4294967295 section.line few (omega arith), (title, tt)),
+      (within 4294967295 section.line few (omega arith), (title, tt)),
   good-append (body_lines section.body) (done_line ∷ []) body (line_is_good done_line refl tt, tt),
 )
 

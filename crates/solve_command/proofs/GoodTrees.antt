@@ -114,10 +114,11 @@ table_is_good : (graph : Graph) (rows : List (List ℤ)) → length graph.colour
     → AreNumbers rows
     → AreGoodLines (cert_lines (a_table rows))
 table_is_good graph rows few fits near =
-    let count : length rows ≤ greatest_graph = omega (arith, fits.count) in
-    (line_is_good (table_line (length rows)) refl (within greatest_graph (length rows) count (omega arith), tt),
-    good-map
-    table_row_line rows row_good)
+    let count : length rows ≤ greatest_graph = omega (arith, fits.count) in (
+      line_is_good (table_line (length rows)) refl (within greatest_graph (length rows) count (omega arith), tt),
+      good-map
+          table_row_line rows row_good,
+    )
   where
     row_good : All (λ row. IsGoodLine (table_row_line row)) rows
     row_good place d before =
@@ -171,8 +172,12 @@ tree_is_good built tree table budget small right few upper is_table fits near ca
 -- the line of a graph that is too large is good
 pub too_large_is_good : (vertices : ℕ) → vertices < 2 ^ 32 → HasGoodLines (TooLarge vertices)
 too_large_is_good vertices few candidate error formula few_off = (
-  line_is_good (too_large_line candidate error vertices) refl
-      (formula, (within 2000000 error few_off (omega arith),
-      (tt, (within 4294967295 vertices (omega arith) (omega arith), tt)))),
+  line_is_good (too_large_line candidate error vertices) refl (
+    formula,
+    (
+      within 2000000 error few_off (omega arith),
+      (tt, (within 4294967295 vertices (omega arith) (omega arith), tt)),
+    ),
+  ),
   tt,
 )

@@ -73,9 +73,12 @@ pub made_all : (settings : SolveSettingsValue) (all waiting : List SpectrumValue
     → Made settings all waiting document now report told → waiting ≡ []
     → (sections : List Section) × OneEach (IsMadeSection settings) all sections
     × (now ≡ document ++ flat_map spelled sections) × (told ≡ report ++ flat_map section_text_of sections)
-made_all settings all waiting document now report told made none =
-    (made.sections, handed_all (IsMadeSection settings) all waiting made.sections made.handed none, made.written,
-    made.reported)
+made_all settings all waiting document now report told made none = (
+  made.sections,
+  handed_all (IsMadeSection settings) all waiting made.sections made.handed none,
+  made.written,
+  made.reported,
+)
 
 abbrev has_good_lines : Section → Type 0
 has_good_lines section = AreGoodLines (section_lines section)

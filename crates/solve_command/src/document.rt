@@ -13,11 +13,11 @@ ghost use Rattle.right_document.specs.OneEach.{OneEach};
 ghost use Rattle.solve_command.specs.inside.Made.{IsMade, IsMadeSection};
 ghost use Rattle.right_document.specs.SettingsOf.{solve_settings_value_of};
 
-use right_document::{SolveSettings, ending_is_good, ending_of};
-use run_plan::read_all;
 use crate::section::section_of;
 use mgf_reader::{MgfFault, Reader, Spectrum};
 use rank_report::{push_ending, push_section};
+use right_document::{SolveSettings, ending_is_good, ending_of};
+use run_plan::read_all;
 use std::alloc::{AllocError, Global};
 use tree_document::{parts_make_the_spelling, write_ending, write_header, write_section};
 

@@ -14,14 +14,14 @@ ghost use Rattle.right_document.specs.RightSection.{IsRightEntry, OutcomeIsRight
 ghost use Rattle.right_document.specs.GoodLines.{HasGoodLines};
 ghost use Rattle.right_document.specs.SettingsOf.{solve_settings_value_of};
 
-use right_document::{SolveSettings, ion_error, is_formula};
-use tree_entry::tree_rows;
 use element_table::{Formula, FormulaList, a_whole_is_its_part_and_its_loss};
 use loss_graph::{GraphFault, LossGraph, build};
+use right_document::{SolveSettings, ion_error, is_formula};
 use std::alloc::{AllocError, Global};
 use subset_tree::solve_small;
 use tree_certificate::Cert;
 use tree_document::{Entry, Mark, Outcome, Tree, TreeRows};
+use tree_entry::tree_rows;
 
 /// The entry of a candidate over the lists of its spectrum, one list more than selected peaks.
 pub fn entry_of(

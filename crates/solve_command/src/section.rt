@@ -12,13 +12,13 @@ ghost use Rattle.right_document.specs.RightSection.{IsRightEntry, SectionIsRight
 ghost use Rattle.right_document.specs.Outlines.{AreOwnLists};
 ghost use Rattle.right_document.specs.SettingsOf.{solve_settings_value_of};
 
-use right_document::{Outline, SolveSettings, candidates, read_outline};
 use crate::entry::entry_of;
 use element_table::{Formula, FormulaList};
 use mgf_reader::{Spectrum, Title};
-use tree_entry::{rank, ranked_entries_rise};
+use right_document::{Outline, SolveSettings, candidates, read_outline};
 use std::alloc::{AllocError, Global};
 use tree_document::{Body, Entries, Entry, FormulaLists, Section, Solved};
+use tree_entry::{rank, ranked_entries_rise};
 
 /// The section of a spectrum.
 pub fn section_of(

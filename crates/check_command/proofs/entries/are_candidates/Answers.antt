@@ -38,7 +38,7 @@ returns c =
     let read : c.deref.result.now ≡ sorted = c.deref.ensures.value in
     rw (← c.in_ok-own.ensures) (
       (λ is. subst (λ own. IsPermutation own told) (sym read ∙ c.are_same_formulas.ensures.0 is)
-      (IsPermutation-sym told sorted moved)),
+          (IsPermutation-sym told sorted moved)),
       (λ same.
           let all = IsPermutation-trans candidates told sorted same moved in
           let apart = rising_apart candidates c.requires.rising in

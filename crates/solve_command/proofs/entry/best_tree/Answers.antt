@@ -88,7 +88,13 @@ returns-clause-good c =
     }) in
     let edges_are = c.in_ok-rows.ensures.edges ∙ c.deref-2.ensures.value in
     let rows : length c.of.result ≤ greatest_rows =
-    omega (arith, ap length c.of.ensures, ap length edges_are, length-map c.in_ok-rows.rows.items
-    (λ (row : TreeRow). row.edge), c.in_ok-edges.ensures.few) in
+    omega (
+      arith,
+      ap length c.of.ensures,
+      ap length edges_are,
+      length-map c.in_ok-rows.rows.items
+          (λ (row : TreeRow). row.edge),
+      c.in_ok-edges.ensures.few,
+    ) in
     tree_is_good built _ _ 0 is_small (returns-clause-entry c 0) rows refl refl
     (rw (← c.built.view_is) c.in_ok-edges.ensures.holds.fits) c.rows-numbers.ensures.numbers

@@ -11,9 +11,11 @@ pub section_with-requires : goal.section_with-requires
 section_with-requires g c =
     elim c.match-branch-2.branch [
       | in-Skipped w ↦
-          subst (λ (body : Body). AreGoodLines (body_lines body)) (sym w.body-is)
-          (subst (λ (outline : Outline). HasGoodReason (outline_of outline)) w.in-Skipped.is
-          c.in_ok-reason.ensures.reason, tt)
+          subst (λ (body : Body). AreGoodLines (body_lines body)) (sym w.body-is) (
+            subst (λ (outline : Outline). HasGoodReason (outline_of outline)) w.in-Skipped.is
+                c.in_ok-reason.ensures.reason,
+            tt,
+          )
       | in-Listed+in_ok-solved_of-in-Listed w ↦
           subst (λ (body : Body). AreGoodLines (body_lines body))
           (sym w.body-is) w.in_ok-solved_of-in-Listed.ensures.good
