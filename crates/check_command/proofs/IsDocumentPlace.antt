@@ -1,8 +1,8 @@
 -- `IsDocumentPlace`: a document that differs somewhere from the right ones of a text is none of them.
 use Rattle.std.proofs.Common.{◌≡◌, ◌+◌, ◌<◌, ◌⊎◌, inl, inr, ℕ, List, length, All, AllPairs, slice_get, get_or, Option}
-use Rattle.std.proofs.Common.{Some, ap, arith, subst, sym, ◌∙◌}
+use Rattle.std.proofs.Common.{Some, [], ◌∷◌, zero, suc, ap, arith, subst, sym, ◌∙◌}
 use Rattle.std.specs.declared.cmp.Ordering.TheVariants.{Less}
-use Rattle.std.proofs.lemmas.Option.{get_or_from_slice_get, slice_get_within}
+use Rattle.std.proofs.lemmas.Option.{get_or_from_slice_get, none-some, same_Some, slice_get_within}
 use Rattle.tree_entry.specs.EntryIsRight.{EntryIsRight}
 use Rattle.entry_checker.specs.EntryPlaces.{IsEntryPlace}
 use Rattle.tree_entry.specs.declared.place.EntryPlace.{EntryPlace}

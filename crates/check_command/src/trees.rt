@@ -7,6 +7,7 @@ ghost use Rattle.loss_graph.specs.Lists.{AreLists};
 ghost use Rattle.tree_document.specs.Document.{IsSmallCert, OfOutcome};
 ghost use Rattle.right_document.specs.Candidates.{ion_of};
 ghost use Rattle.check_command.specs.inside.CheckAnswers.{AreTreesAnswer, IsFinding, IsFindingOver, IsSizeFinding};
+ghost use Rattle.check_command.specs.inside.CheckAnswers.{IsToldFinding};
 ghost use Rattle.right_document.specs.SettingsOf.{solve_settings_value_of};
 
 use element_table::FormulaList;
@@ -72,8 +73,7 @@ fn finding_of(
     let choice = &settings.listing.choice;
     match build(alloc, lists, &entry.candidate, choice, settings.scores) {
         Ok(built) => finding_over(alloc, &built, &entry.outcome, settings.budget),
-        Err(GraphFault::TooLarge(vertices)) => Ok(size_finding(vertices, &entry.outcome)),
-        Err(GraphFault::OutOfMemory) => Err(AllocError),
+        Err(fault) => size_finding(fault, &entry.outcome),
     }
 }
 
@@ -97,9 +97,19 @@ fn finding_over(
     }
 }
 
-/// What is found of an outcome where the graph has so many vertices, too many for a tree.
-fn size_finding(vertices: u32, outcome: &Outcome) -> Finding
-    ensures { IsSizeFinding vertices outcome.now result }
+/// What is found of an outcome where a graph has too many vertices for a tree.
+fn size_finding(fault: GraphFault, outcome: &Outcome) -> Result<Finding, AllocError>
+    ensures { IfOk result (IsSizeFinding fault outcome.now) }
+{
+    match fault {
+        GraphFault::TooLarge(vertices) => Ok(told_finding(vertices, outcome)),
+        GraphFault::OutOfMemory => Err(AllocError),
+    }
+}
+
+/// What is found of an outcome where a graph has so many vertices.
+fn told_finding(vertices: u32, outcome: &Outcome) -> Finding
+    ensures { IsToldFinding vertices outcome.now result }
 {
     match outcome {
         Outcome::TooLarge(told) if *told == vertices => Finding::Right,

@@ -1,24 +1,20 @@
 -- `entry_lines`: what bounds the errors of candidates, and the numbers of the lists of a graph.
-use Rattle.std.proofs.Common.{◌+◌, ◌≡◌, ◌≤◌, ◌<◌, ◌-◌, ◌⊎◌, inl, inr, ℕ, List, length, map, slice_index, sym, subst}
+use Rattle.std.proofs.Common.{◌+◌, ◌≡◌, ◌≤◌, ◌<◌, ◌-◌, ◌⊎◌, inl, inr, ℕ, List, length, slice_index, sym, subst}
 use Rattle.std.proofs.Common.{arith}
 use Rattle.std.proofs.Common.{ℤ, pos, negsuc, ◌+ℤ◌, ◌-ℤ◌, ◌≤ℤ◌, unsigned_abs}
 use Rattle.std.proofs.lemmas.Bool.{cases_lt}
 use Rattle.std.proofs.lemmas.Int.{ints}
-use Rattle.std.proofs.lemmas.List.{get_or_past, length-map}
+use Rattle.std.proofs.lemmas.List.{get_or_past}
 use Rattle.std.proofs.lemmas.List.Elements.{All-contains, All-filter}
 use Rattle.std.proofs.lemmas.List.FromFn.{get_or-range_with_len, length-range_with_len}
-use Rattle.std.specs.List.{All, filter, range_with_len}
+use Rattle.std.specs.List.{All, range_with_len}
 use Rattle.adducts.specs.declared.choice.Choice.{Choice}
-use Rattle.element_table.specs.Formula.{is_within, loss_of, mass_of}
+use Rattle.element_table.specs.Formula.{mass_of}
 use Rattle.element_table.specs.FormulaList.{FormulaListValue}
-use Rattle.element_table.specs.Listed.{passes}
 use Rattle.element_table.specs.Window.{InWindow, Window, greatest_half_width}
-use Rattle.loss_graph.proofs.Weights.{filter-short}
 use Rattle.loss_graph.specs.Lists.{AreLists, list_at, window_at}
 use Rattle.loss_graph.specs.LossGraph.{error_of}
 use Rattle.loss_graph.specs.Vertices.{has_part, peaks_of}
-use Rattle.right_document.specs.Candidates.{candidates_of}
-use Rattle.right_document.specs.SolveSettings.{SolveSettingsValue}
 
 away : (difference : ℤ) (half : ℕ) → pos 0 ≤ℤ (difference +ℤ pos half) → difference ≤ℤ pos half
     → unsigned_abs difference ≤ half

@@ -1,30 +1,22 @@
 -- `section_lines`: the lines of lists, of what stands of a spectrum, and of a section.
-use Rattle.std.proofs.Common.{◌≡◌, ◌≤◌, ◌<◌, ◌∷◌, ◌^◌, [], ℕ, List, length, map, Bool, true, false, cond, Option, Some}
-use Rattle.std.proofs.Common.{None, refl, ap, arith}
+use Rattle.std.proofs.Common.{◌≡◌, ◌≤◌, ◌<◌, ◌∷◌, ◌^◌, [], ℕ, List, length, map, true}
+use Rattle.std.proofs.Common.{refl, arith}
 use Rattle.std.proofs.lemmas.List.{length-map}
 use Rattle.std.proofs.lemmas.List.Sorted.{length_permutation}
 use Rattle.std.specs.List.{All, flat_map}
 use Rattle.std.specs.List.Sorted.{IsPermutation}
-use Rattle.std.specs.Option.{ForSome, option_map_or}
-use Rattle.adducts.specs.Charges.{charges_fit}
-use Rattle.adducts.specs.Fit.{fit_at, fit_of, is_in_range}
 use Rattle.adducts.specs.declared.choice.Choice.{Choice}
-use Rattle.adducts.specs.declared.outcome.Fit.TheVariants as Found
 use Rattle.element_table.specs.Formula.{IsFormula}
-use Rattle.element_table.specs.FormulaList.{FormulaListValue}
+use Rattle.element_table.specs.FormulaList.{FormulaListValue, greatest_list}
 use Rattle.loss_graph.specs.Lists.{IsList}
-use Rattle.mgf_reader.specs.Spectrum.{SpectrumValue}
-use Rattle.mgf_reader.specs.Fault.{kind_number}
-use Rattle.mgf_reader.specs.declared.fault.MgfKind.{MgfKind}
 use Rattle.tree_document.specs.Document.{AreGoodLines, IsGood, IsGoodLine, body_lines, ending_line, entry_lines}
 use Rattle.tree_document.specs.Document.{list_lines, section_lines}
 use Rattle.tree_document.specs.Line.{done_line, entries_line, formula_line, header_line, list_line, lists_line}
-use Rattle.tree_document.specs.Line.{refused_line, skip_line, spectrum_line}
+use Rattle.tree_document.specs.Line.{spectrum_line}
 use Rattle.tree_document.specs.Title.{are_bytes}
 use Rattle.tree_document.specs.declared.document.Body.TheVariants.{Solved}
 use Rattle.tree_document.specs.declared.document.Document.{Document}
 use Rattle.tree_document.specs.declared.document.Section.{Section}
-use Rattle.tree_document.specs.declared.document.Skip.TheVariants.{Range, TooMany}
 use Rattle.tree_document.specs.declared.document.Solved.{Solved as SolvedRead}
 use Rattle.tree_document.specs.declared.entry.Entry.{Entry}
 use Rattle.right_document.specs.Candidates.{candidates_of}

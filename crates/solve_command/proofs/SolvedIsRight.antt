@@ -1,26 +1,25 @@
 -- `SolvedIsRight`: entries of a spectrum's candidates, ranked.
-use Rattle.std.proofs.Common.{◌≡◌, ◌≢◌, ◌∙◌, ◌<◌, ℕ, List, length, map, get_or, sym, ap, subst, [], ◌∷◌, zero, suc}
+use Rattle.std.proofs.Common.{◌≡◌, ◌≢◌, ◌∙◌, ℕ, List, map, get_or, sym, subst}
 use Rattle.std.proofs.Common.{arith}
-use Rattle.std.specs.List.{All, AllPairs, Contains}
+use Rattle.std.specs.List.{All, AllPairs}
 use Rattle.std.specs.List.Sorted.{IsPermutation}
 use Rattle.std.specs.Str.{bytes_eq}
 use Rattle.std.specs.declared.cmp.Ordering.TheVariants.{Less}
 use Rattle.std.proofs.lemmas.Bool.Decides.{same_from_decides}
-use Rattle.std.proofs.lemmas.List.{get_or_default, get_or-map, length-map}
+use Rattle.std.proofs.lemmas.List.{get_or-map, length-map}
 use Rattle.std.proofs.lemmas.List.Sorted.{All-permutation, IsPermutation-map}
 use Rattle.std.proofs.lemmas.Map.Keys.{IsDistinct-IsPermutation}
 use Rattle.std.proofs.lemmas.Map.Made.{AllPairs-from_IsDistinct, IsDistinct-from_AllPairs}
 use Rattle.std.proofs.lemmas.Slice.Eq.{bytes_eq-Decides}
 use Rattle.element_table.specs.FormulaList.{FormulaListValue}
-use Rattle.loss_graph.specs.Lists.{AreLists, greatest_lists, list_at}
+use Rattle.loss_graph.specs.Lists.{list_at}
 use Rattle.tree_entry.specs.Rank.{AreRanked, rank_cmp}
 use Rattle.tree_document.specs.declared.document.Solved.{Solved}
 use Rattle.tree_document.specs.declared.entry.Entry.{Entry}
-use Rattle.right_document.specs.Candidates.{candidates_of, ion_of}
+use Rattle.right_document.specs.Candidates.{candidates_of}
 use Rattle.right_document.specs.RightSection.{IsRightEntry, SolvedIsRight}
 use Rattle.right_document.specs.SolveSettings.{SolveSettingsValue}
 use Rattle.right_document.specs.Outlines.{AreOwnLists}
-use Rattle.std.proofs.lemmas.List.Elements.{All-map}
 use Rattle.right_document.proofs.CandidatesOf.{IsBelow, candidates_rise, rising_apart}
 
 -- what holds of every two in turn that are made of those of a list holds of these

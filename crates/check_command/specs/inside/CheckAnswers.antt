@@ -6,6 +6,8 @@ use Rattle.colour_graph.specs.EdgeSet.{all_edges}
 use Rattle.element_table.specs.FormulaList.{FormulaListValue}
 use Rattle.entry_checker.specs.EntryPlaces.{IsEntryPlace}
 use Rattle.loss_graph.specs.LossGraph.{LossGraphValue}
+use Rattle.loss_graph.specs.declared.outcome.GraphFault.{GraphFault}
+use Rattle.loss_graph.specs.declared.outcome.GraphFault.TheVariants.{TooLarge, OutOfMemory}
 use Rattle.mgf_reader.specs.Spectrum.{SpectrumValue}
 use Rattle.tree_document.specs.declared.document.Body.{Body}
 use Rattle.tree_document.specs.declared.document.Section.{Section}
@@ -34,7 +36,7 @@ IsFinding settings lists entry finding.Size = ¬ (SizeIsRight settings lists ent
 IsFinding settings lists entry (finding.Tree place) = SizeIsRight settings lists entry.candidate entry.outcome
     × IsPlaceIn settings lists entry.candidate entry.outcome place
 
--- what is found of an outcome over a graph that is not too large, and where it has so many vertices, which are too many
+-- what is found of an outcome over a graph that is not too large
 abbrev pub IsFindingOver : LossGraphValue → ℕ → Outcome → Finding → Type 0
 IsFindingOver built budget (outcome.Tree tree) finding.Right =
     EntryIsRight built tree budget × IsBounded built.graph (all_edges built.graph) tree.upper
@@ -42,11 +44,16 @@ IsFindingOver built budget (outcome.Tree tree) (finding.Tree place) = IsEntryPla
 IsFindingOver built budget (outcome.TooLarge told) finding.Size = ⊤
 IsFindingOver built budget outcome finding = ⊥
 
-abbrev pub IsSizeFinding : ℕ → Outcome → Finding → Type 0
-IsSizeFinding vertices (outcome.TooLarge told) finding.Right = vertices ≡ told
-IsSizeFinding vertices (outcome.TooLarge told) finding.Size = vertices ≢ told
-IsSizeFinding vertices (outcome.Tree tree) finding.Size = ⊤
-IsSizeFinding vertices outcome finding = ⊥
+-- what is found of an outcome where a graph has so many vertices, too many for a tree
+abbrev pub IsToldFinding : ℕ → Outcome → Finding → Type 0
+IsToldFinding vertices (outcome.TooLarge told) finding.Right = vertices ≡ told
+IsToldFinding vertices (outcome.TooLarge told) finding.Size = vertices ≢ told
+IsToldFinding vertices (outcome.Tree tree) finding.Size = ⊤
+IsToldFinding vertices outcome finding = ⊥
+
+abbrev pub IsSizeFinding : GraphFault → Outcome → Finding → Type 0
+IsSizeFinding (TooLarge vertices) outcome finding = IsToldFinding vertices outcome finding
+IsSizeFinding OutOfMemory outcome finding = ⊥
 
 -- what is answered of the sizes of graphs and the trees of entries
 abbrev pub AreTreesAnswer : SolveSettingsValue → List FormulaListValue → List Entry → Option RejectPart → Type 0

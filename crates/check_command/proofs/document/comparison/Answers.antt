@@ -1,4 +1,4 @@
-use Rattle.std.proofs.Common.{◌∙◌, ◌+◌, List, Some, length, ap, subst, sym}
+use Rattle.std.proofs.Common.{◌∙◌, ◌+◌, List, length, ap, subst, sym}
 use Rattle.tree_document.specs.declared.document.Section.{Section}
 use Rattle.check_command.specs.inside.CheckAnswers.{AreSectionsAnswer}
 use Rattle.check_command.proofs.IsSectionsPlace.{in_sections}
