@@ -46,8 +46,8 @@ const NO_BYTES: &str = "/dev/null";
 #[derive(Drop)]
 struct Held<F>(F, F, F);
 
-/// Takes as many descriptors as there are standard streams. Where one of these is closed, the system gives its descriptor
-/// to the next file that is opened, and what is meant for the stream would land in that file.
+/// Takes as many descriptors as there are standard streams. Where one of these is closed, the system gives its
+/// descriptor to the next file that is opened, and what is meant for the stream would land in that file.
 fn take_descriptors<R: Files>(rt: &R) -> io::Result<Held<R::File>> {
     Ok(Held(
         fs::open(rt, NO_BYTES)?,
@@ -95,8 +95,8 @@ fn end<F: Write + Drop>(outlet: &mut Outlet<F>) -> io::Result<()>
 }
 
 /// A desk over real files and the standard output. It tells no bytes. Read slots are opened only to read; the
-/// document's file is created, or emptied, as it begins, and never takes the descriptor of a standard stream; the report
-/// goes to the standard output.
+/// document's file is created, or emptied, as it begins, and never takes the descriptor of a standard stream; the
+/// report goes to the standard output.
 #[derive(Drop)]
 pub struct RealDesk<'a, R: Files + Print> {
     rt: &'a R,
@@ -284,31 +284,5 @@ impl<R: Files + Print> Desk for RealDesk<'_, R> {
             Ok(()) => Ok(()),
             Err(_) => Err(self.slots.faults.fail(slot)),
         }
-    }
-}
-
-#[cfg(test)]
-mod tests {
-    use super::*;
-    use crate::{ReadWhole, read_whole};
-    use std::test::Fail;
-
-    fn text_of<D: Desk>(alloc: Global, desk: &mut D, name: &str) -> Result<Vec<u8>, ReadWhole>
-        requires { (slot : Slot) → (D.state desk.old).begun slot ≡ false }
-    {
-        desk.begin(alloc, Slot::Spectra, name)?;
-        read_whole(alloc, desk, Slot::Spectra, 100)
-    }
-
-    #[test]
-    fn a_missing_file_and_a_folder_are_faults(rt: HostRuntime) -> Result<(), Fail> {
-        for name in ["missing.txt", "."] {
-            let mut desk = RealDesk::new(&rt);
-            let text = text_of(rt.alloc(), &mut desk, name);
-            assert!(rt; matches!(text, Err(ReadWhole::Failed)), "{name}");
-            assert_eq!(rt; desk.slots.faults.at(Slot::Spectra), 1, "{name}");
-            assert_eq!(rt; desk.slots.faults.at(Slot::Profile), 0, "{name}");
-        }
-        Ok(())
     }
 }

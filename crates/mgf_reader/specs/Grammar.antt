@@ -1,11 +1,13 @@
 -- The grammar of a text as a relation on its whole list of lines: lines outside and blocks in any order, and then a
--- rest. The format is the Mascot generic format as Matrix Science describes it; the leniencies and the refusals are this
--- project's own.
-use Rattle.std.specs.Prelude.{◌≡◌, ◌+◌, ◌≤◌, ◌++◌, ℕ, List, [], ◌∷◌, Bool, true, false, nat_le, if◌then◌else◌, Option, Some, None, is_none, length}
+-- rest. The format is the Mascot generic format as Matrix Science describes it; the leniencies and the refusals are
+-- this project's own.
+use Rattle.std.specs.Prelude.{◌≡◌, ◌+◌, ◌≤◌, ◌++◌, ℕ, List, [], ◌∷◌, Bool, true, false, nat_le, if◌then◌else◌, Option}
+use Rattle.std.specs.Prelude.{Some, None, is_none, length}
 use Rattle.std.specs.Option.{option_to_list}
 use Rattle.std.specs.List.{AllByRecursion, flat_map}
 use Rattle.mgf_reader.specs.declared.fault.MgfKind.{MgfKind}
-use Rattle.mgf_reader.specs.declared.fault.MgfKind.TheVariants.{NestedBegin, StrayEnd, OpenBlock, PeakOutside, BadPeak, NoForm, LineTooLong, TooManyPeaks}
+use Rattle.mgf_reader.specs.declared.fault.MgfKind.TheVariants.{NestedBegin, StrayEnd, OpenBlock, PeakOutside, BadPeak}
+use Rattle.mgf_reader.specs.declared.fault.MgfKind.TheVariants.{NoForm, LineTooLong, TooManyPeaks}
 use Rattle.mgf_reader.specs.declared.fault.MgfFault.{MgfFault}
 use Rattle.mgf_reader.specs.Spectrum.{PeakValue, SpectrumValue}
 use Rattle.mgf_reader.specs.LineForm.{LineForm, too_long, begin, end, parameter, peak, no_form, form_of}

@@ -2,7 +2,8 @@
 use Rattle.std.specs.Prelude.{ℕ, List, [], ◌∷◌, Bool, false, ◌&&◌, if◌then◌else◌, length, nat_lt, codes}
 use Rattle.std.specs.List.{before_first, after_first, list_any}
 use Rattle.std.specs.Str.{str_eq_ignore_ascii_case}
-use Rattle.mgf_reader.specs.Bytes.{is_blank, is_edge, is_name_byte, is_comment_mark, is_peak_start, is_equals, trimmed, fields_of}
+use Rattle.mgf_reader.specs.Bytes.{is_blank, is_edge, is_name_byte, is_comment_mark, is_peak_start, is_equals, trimmed}
+use Rattle.mgf_reader.specs.Bytes.{fields_of}
 use Rattle.mgf_reader.specs.Text.{greatest_line}
 
 -- what a line is, with what a parameter line and a peak line hold

@@ -3,7 +3,8 @@ ghost use Rattle.std.specs.Prelude.{◌≡◌, ◌+◌, ◌<◌, ◌^◌, [], �
 ghost use Rattle.mgf_reader.specs.LineForm.{form_of};
 ghost use Rattle.mgf_reader.specs.inside.Line.{form_of_line};
 ghost use Rattle.mgf_reader.specs.Grammar.{fault_outside};
-ghost use Rattle.mgf_reader.specs.inside.Judging.{Judges, fault_behind, left_behind, left_outside, kind_in, end_of, nothing_judged};
+ghost use Rattle.mgf_reader.specs.inside.Judging.{Judges, fault_behind, left_behind, left_outside, kind_in, end_of};
+ghost use Rattle.mgf_reader.specs.inside.Judging.{nothing_judged};
 
 use crate::block::{Block, LineFault, SpectrumSettings};
 use crate::fault::{FeedFault, MgfFault, MgfKind};

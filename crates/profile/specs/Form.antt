@@ -1,11 +1,15 @@
 -- What may stand at a place of a profile text: the keys of its tables, the kinds of its values, and the ranges of its
 -- numbers.
-use Rattle.std.specs.Prelude.{ℕ, zero, suc, ℤ, pos, neg_ℤ, int_lt, int_le, Bool, true, false, ◌&&◌, List, [], ◌∷◌, Option, Some, None, is_none, is_some, option_and_then, unwrap_or, codes, nat_le, bytes_eq, if◌then◌else◌}
+use Rattle.std.specs.Prelude.{ℕ, zero, suc, ℤ, pos, neg_ℤ, int_lt, int_le, Bool, true, false, ◌&&◌, List, [], ◌∷◌}
+use Rattle.std.specs.Prelude.{Option, Some, None, is_none, is_some, option_and_then, unwrap_or, codes, nat_le, bytes_eq}
+use Rattle.std.specs.Prelude.{if◌then◌else◌}
 use Rattle.std.specs.List.{list_any}
 use Rattle.std.specs.Map.{lookup}
 use Rattle.element_table.specs.Elements.{greatest_count}
-use Rattle.score_tables.specs.Tables.{falls_to_nought, greatest_losses, greatest_pairs, greatest_score, greatest_share, greatest_size, least_size, rises_to_whole}
-use Rattle.toml.specs.Data.{Data, string, integer, array, table, as_integer, at, Items, no_items, item, Members, no_members, member}
+use Rattle.score_tables.specs.Tables.{falls_to_nought, greatest_losses, greatest_pairs, greatest_score, greatest_share}
+use Rattle.score_tables.specs.Tables.{greatest_size, least_size, rises_to_whole}
+use Rattle.toml.specs.Data.{Data, string, integer, array, table, as_integer, at, Items, no_items, item, Members}
+use Rattle.toml.specs.Data.{no_members, member}
 use Rattle.profile.specs.Profile.{greatest_abs, greatest_budget, greatest_peaks, greatest_ppm, greatest_rules}
 use Rattle.profile.specs.Table.{element_numbers}
 

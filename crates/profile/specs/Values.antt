@@ -1,11 +1,13 @@
 -- The profile that a table gives which is not refused. What the table does not name is as in the default profile.
-use Rattle.std.specs.Prelude.{ℕ, ℤ, pos, negsuc, Bool, true, false, not, List, [], ◌∷◌, map, filter, Option, Some, None, option_and_then, unwrap_or, codes, if◌then◌else◌}
+use Rattle.std.specs.Prelude.{ℕ, ℤ, pos, negsuc, Bool, true, false, not, List, [], ◌∷◌, map, filter, Option, Some, None}
+use Rattle.std.specs.Prelude.{option_and_then, unwrap_or, codes, if◌then◌else◌}
 use Rattle.std.specs.Option.{option_map_or}
 use Rattle.element_table.specs.Formula.{empty_formula}
 use Rattle.element_table.specs.Rule.{Rule, Parity, any, even, odd}
 use Rattle.score_tables.specs.Default.{default_tables}
 use Rattle.score_tables.specs.Tables.{LossTable, ScoresValue, ShareTable, in_formula_order}
-use Rattle.toml.specs.Data.{Data, as_array, as_integer, as_table, get_member, Items, no_items, item, Members, no_members, member}
+use Rattle.toml.specs.Data.{Data, as_array, as_integer, as_table, get_member, Items, no_items, item, Members}
+use Rattle.toml.specs.Data.{no_members, member}
 use Rattle.profile.specs.Form.{bound_of, score_of}
 use Rattle.profile.specs.Losses.{key_formula}
 use Rattle.profile.specs.Profile.{ProfileValue, default_profile_value}
