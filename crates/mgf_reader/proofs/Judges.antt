@@ -7,7 +7,7 @@ use Rattle.mgf_reader.specs.declared.fault.MgfKind.{MgfKind}
 use Rattle.mgf_reader.specs.declared.fault.MgfKind.TheVariants.{OpenBlock}
 use Rattle.mgf_reader.specs.declared.fault.MgfFault.{MgfFault}
 use Rattle.mgf_reader.specs.Spectrum.{SpectrumValue}
-use Rattle.mgf_reader.specs.LineForm.{LineForm, begin, end, form_of}
+use Rattle.mgf_reader.specs.LineForm.{LineForm, begin, end, line_form}
 use Rattle.mgf_reader.specs.Grammar.{greatest_peaks_of_a_block, fault_outside, fault_inside, peak_in, peaks_of}
 use Rattle.mgf_reader.specs.Grammar.{IsInside, IsBlockBody, Piece, outside, block, piece_lines, IsPiece, spectrum_of}
 use Rattle.mgf_reader.specs.Grammar.{spectra_of, Rest, nothing, stray, refused, open_block, ReadsLines}
@@ -20,7 +20,7 @@ use Rattle.mgf_reader.proofs.SpectraOf.{inside-room, outside_lines-append, spect
 -- the lines of a block that was begun, or none
 abbrev pub IsOpen : List (List ℕ) → Type 0
 IsOpen [] = Unit {0}
-IsOpen (first ∷ body) = (form_of first ≡ begin) × IsBlockBody body
+IsOpen (first ∷ body) = (line_form first ≡ begin) × IsBlockBody body
 
 -- what some lines leave that are all right so far
 pub record Follows (now : Judged) (lines : List (List ℕ)) (out : List SpectrumValue) : Type 0 where
@@ -43,7 +43,7 @@ whole-push pieces piece = flat_map-append piece_lines pieces (piece ∷ [])
 -- a line outside is one piece more
 follows-outside : (waiting : List SpectrumValue) (number : ℕ) (set : Defaults) (lines : List (List ℕ))
     (out : List SpectrumValue) (line : List ℕ) (form : LineForm) (pieces : List Piece)
-    → form_of line ≡ form → fault_outside form ≡ None → (form ≡ begin → ⊥)
+    → line_form line ≡ form → fault_outside form ≡ None → (form ≡ begin → ⊥)
     → lines ≡ flat_map piece_lines pieces ++ [] → AllByRecursion IsPiece pieces
     → out ++ waiting ≡ spectra_of [] 1 pieces
     → number ≡ length lines → set ≡ defaults_of (outside_lines pieces)
@@ -69,7 +69,7 @@ follows-outside waiting number set lines out line form pieces is sound no_begin 
 -- a begin line opens a block
 follows-begin : (waiting : List SpectrumValue) (number : ℕ) (set : Defaults) (lines : List (List ℕ))
     (out : List SpectrumValue) (line : List ℕ) (pieces : List Piece)
-    → form_of line ≡ begin
+    → line_form line ≡ begin
     → lines ≡ flat_map piece_lines pieces ++ [] → AllByRecursion IsPiece pieces
     → out ++ waiting ≡ spectra_of [] 1 pieces
     → number ≡ length lines → set ≡ defaults_of (outside_lines pieces)
@@ -101,8 +101,8 @@ follows-begin waiting number set lines out line pieces is whole right spectra ju
 follows-inside : (waiting : List SpectrumValue) (number : ℕ) (set : Defaults) (now : SpectrumValue)
     (lines : List (List ℕ)) (out : List SpectrumValue) (line : List ℕ) (form : LineForm) (pieces : List Piece)
     (first : List ℕ) (body : List (List ℕ))
-    → form_of line ≡ form → fault_inside (length now.peaks) form ≡ None → (form ≡ end → ⊥)
-    → form_of first ≡ begin → IsBlockBody body
+    → line_form line ≡ form → fault_inside (length now.peaks) form ≡ None → (form ≡ end → ⊥)
+    → line_form first ≡ begin → IsBlockBody body
     → lines ≡ flat_map piece_lines pieces ++ first ∷ body → AllByRecursion IsPiece pieces
     → out ++ waiting ≡ spectra_of [] 1 pieces
     → number ≡ length lines → set ≡ defaults_of (outside_lines pieces)
@@ -160,8 +160,8 @@ follows-inside waiting number set now lines out line form pieces first body is s
 -- an end line makes a piece of the block
 follows-end : (waiting : List SpectrumValue) (number : ℕ) (set : Defaults) (now : SpectrumValue) (lines : List (List ℕ))
     (out : List SpectrumValue) (line : List ℕ) (pieces : List Piece) (first : List ℕ) (body : List (List ℕ))
-    → form_of line ≡ end
-    → form_of first ≡ begin → IsBlockBody body
+    → line_form line ≡ end
+    → line_form first ≡ begin → IsBlockBody body
     → lines ≡ flat_map piece_lines pieces ++ first ∷ body → AllByRecursion IsPiece pieces
     → out ++ waiting ≡ spectra_of [] 1 pieces
     → number ≡ length lines → set ≡ defaults_of (outside_lines pieces)
@@ -189,7 +189,7 @@ follows-end waiting number set now lines out line pieces first body is begins is
 -- a line outside that is right, whatever its form
 next-outside : (waiting : List SpectrumValue) (number : ℕ) (set : Defaults) (lines : List (List ℕ))
     (out : List SpectrumValue) (line : List ℕ) (form : LineForm) (pieces : List Piece)
-    → form_of line ≡ form → fault_outside form ≡ None
+    → line_form line ≡ form → fault_outside form ≡ None
     → lines ≡ flat_map piece_lines pieces ++ [] → AllByRecursion IsPiece pieces
     → out ++ waiting ≡ spectra_of [] 1 pieces
     → number ≡ length lines → set ≡ defaults_of (outside_lines pieces)
@@ -204,8 +204,8 @@ next-outside waiting number set lines out line form pieces is sound whole right 
 next-inside : (waiting : List SpectrumValue) (number : ℕ) (set : Defaults) (now : SpectrumValue) (lines : List (List ℕ))
     (out : List SpectrumValue) (line : List ℕ) (form : LineForm) (pieces : List Piece) (first : List ℕ)
     (body : List (List ℕ))
-    → form_of line ≡ form → fault_inside (length now.peaks) form ≡ None
-    → form_of first ≡ begin → IsBlockBody body
+    → line_form line ≡ form → fault_inside (length now.peaks) form ≡ None
+    → line_form first ≡ begin → IsBlockBody body
     → lines ≡ flat_map piece_lines pieces ++ first ∷ body → AllByRecursion IsPiece pieces
     → out ++ waiting ≡ spectra_of [] 1 pieces
     → number ≡ length lines → set ≡ defaults_of (outside_lines pieces)
@@ -222,7 +222,7 @@ next-inside waiting number set now lines out line form pieces first body is soun
 next-by : (waiting : List SpectrumValue) (number : ℕ) (set : Defaults) (block : Option SpectrumValue)
     (lines : List (List ℕ)) (out : List SpectrumValue) (line : List ℕ) (form : LineForm) (pieces : List Piece)
     (rest : List (List ℕ))
-    → form_of line ≡ form → fault_behind (record { waiting = waiting; judged = number; defaults = set; block = block })
+    → line_form line ≡ form → fault_behind (record { waiting = waiting; judged = number; defaults = set; block = block })
     form ≡ None
     → IsOpen rest
     → lines ≡ flat_map piece_lines pieces ++ rest → AllByRecursion IsPiece pieces
@@ -245,18 +245,18 @@ next-by waiting number set (Some now) lines out line form pieces
 
 -- a line that is right is followed by what it leaves
 pub follows-next : (old : Judged) (lines : List (List ℕ)) (out : List SpectrumValue) (line : List ℕ)
-    → fault_behind old (form_of line) ≡ None → Follows old lines out
-    → Follows (left_behind (counted old) (form_of line)) (lines ++ line ∷ []) out
+    → fault_behind old (line_form line) ≡ None → Follows old lines out
+    → Follows (left_behind (counted old) (line_form line)) (lines ++ line ∷ []) out
 follows-next old lines out line sound follows =
     next-by old.waiting old.judged old.defaults old.block lines out line
-    (form_of line) follows.pieces follows.rest refl sound follows.is_open follows.whole follows.right follows.spectra
+    (line_form line) follows.pieces follows.rest refl sound follows.is_open follows.whole follows.right follows.spectra
     follows.judged follows.defaults follows.open_block
 
 -- a line that has no place is the fault, whatever follows it
 fault-by : (at_end : Bool) (waiting : List SpectrumValue) (number : ℕ) (set : Defaults) (block : Option SpectrumValue)
     (lines : List (List ℕ)) (out : List SpectrumValue) (line : List ℕ) (more : List (List ℕ)) (kind : MgfKind)
     (pieces : List Piece) (rest : List (List ℕ))
-    → fault_behind (record { waiting = waiting; judged = number; defaults = set; block = block }) (form_of line)
+    → fault_behind (record { waiting = waiting; judged = number; defaults = set; block = block }) (line_form line)
     ≡ Some kind
     → IsOpen rest
     → lines ≡ flat_map piece_lines pieces ++ rest → AllByRecursion IsPiece pieces
@@ -296,12 +296,12 @@ fault-by at_end waiting number set (Some now) lines out line more kind pieces
       right = right;
       are_spectra = spectra;
       is_fault = refused first body line more kind refl opened.0 opened.1
-          (ap (λ n. fault_inside n (form_of line)) (sym count) ∙ bad)
+          (ap (λ n. fault_inside n (line_form line)) (sym count) ∙ bad)
           (ap (λ n. let f : MgfFault = record { line = n; kind = kind } in Some f) place);
     }
 
 pub follows-fault : (at_end : Bool) (old : Judged) (lines : List (List ℕ)) (out : List SpectrumValue) (line : List ℕ)
-    (more : List (List ℕ)) (kind : MgfKind) → fault_behind old (form_of line) ≡ Some kind → Follows old lines out
+    (more : List (List ℕ)) (kind : MgfKind) → fault_behind old (line_form line) ≡ Some kind → Follows old lines out
     → ReadsLines at_end (lines ++ line ∷ more) (out ++ old.waiting)
     (Some (record { line = old.judged + 1; kind = kind }))
 follows-fault at_end old lines out line more kind bad follows =

@@ -11,7 +11,7 @@ use Rattle.mgf_reader.specs.declared.fault.MgfKind.TheVariants.{BadPeak, TooMany
 use Rattle.mgf_reader.specs.declared.fault.MgfFault.{MgfFault}
 use Rattle.mgf_reader.specs.Spectrum.{PeakValue, SpectrumValue}
 use Rattle.mgf_reader.specs.LineForm.{LineForm, too_long, blank, comment, begin, end, parameter, peak, remark, no_form}
-use Rattle.mgf_reader.specs.LineForm.{form_of}
+use Rattle.mgf_reader.specs.LineForm.{line_form}
 use Rattle.mgf_reader.specs.PeakLine.{peak_of}
 use Rattle.mgf_reader.specs.Grammar.{greatest_peaks_of_a_block, fault_outside, fault_inside, peak_in, peaks_of}
 use Rattle.mgf_reader.specs.Grammar.{IsOutside, IsInside, IsBlockBody, Piece, outside, block, piece_lines, IsPiece}
@@ -41,12 +41,12 @@ not_none kind e = cc
 -- the peaks of some lines, one line more at their front
 
 abbrev peak_count : List ℕ → ℕ
-peak_count line = length (peak_in 0 (form_of line))
+peak_count line = length (peak_in 0 (line_form line))
 
 length-peaks_of-more : (line : List ℕ) (lines : List (List ℕ))
     → length (peaks_of 0 (line ∷ lines)) ≡ peak_count line + length (peaks_of 0 lines)
 length-peaks_of-more line lines =
-    length-append (peak_in 0 (form_of line)) (peaks_of 1 lines)
+    length-append (peak_in 0 (line_form line)) (peaks_of 1 lines)
     ∙ ap (λ (k : ℕ). peak_count line + k) (peaks_of-length 1 0 lines)
 
 -- a line that may stand in a block and makes no peak too many has no fault there
@@ -75,8 +75,8 @@ form_is_right n no_form right few = right
 
 -- a line at which a block with so many peaks stops: it closes the block or has a fault there
 data IsStop (peaks : ℕ) (line : List ℕ) : Type 0 where
-  closes : form_of line ≡ end → IsStop peaks line
-  fails : (kind : MgfKind) → fault_inside peaks (form_of line) ≡ Some kind → IsStop peaks line
+  closes : line_form line ≡ end → IsStop peaks line
+  fails : (kind : MgfKind) → fault_inside peaks (line_form line) ≡ Some kind → IsStop peaks line
 
 -- lines that may follow in a block that has so many peaks
 record GoesOn (peaks : ℕ) (body : List (List ℕ)) : Type 0 where
@@ -90,7 +90,7 @@ inside_is_no_stop : (n : ℕ) (line : List ℕ) → IsInside line → n + peak_c
     → IsStop n line → ⊥
 inside_is_no_stop n line inside few (closes ends) = inside.no_end ends
 inside_is_no_stop n line inside few (fails kind bad) =
-    not_none kind (sym (form_is_right n (form_of line) inside.right few) ∙ bad)
+    not_none kind (sym (form_is_right n (line_form line) inside.right few) ∙ bad)
 
 no_peaks_yet : (n : ℕ) → n + length (peaks_of 0 []) ≡ n
 no_peaks_yet n = omega arith
@@ -191,23 +191,23 @@ no_stop_in_body body whole stop more stops is same =
 
 -- a line that opens a block has no fault outside, and one that closes it has none inside
 
-stray_is_no_begin : (line first : List ℕ) (kind : MgfKind) → fault_outside (form_of line) ≡ Some kind
-    → form_of first ≡ begin → line ≡ first → ⊥
+stray_is_no_begin : (line first : List ℕ) (kind : MgfKind) → fault_outside (line_form line) ≡ Some kind
+    → line_form first ≡ begin → line ≡ first → ⊥
 stray_is_no_begin line first kind bad begins same =
-    not_none kind (sym (ap fault_outside (ap form_of same ∙ begins)) ∙ bad)
+    not_none kind (sym (ap fault_outside (ap line_form same ∙ begins)) ∙ bad)
 
-end_is_no_fault : (peaks : ℕ) (line last : List ℕ) (kind : MgfKind) → fault_inside peaks (form_of line) ≡ Some kind
-    → form_of last ≡ end → line ≡ last → ⊥
+end_is_no_fault : (peaks : ℕ) (line last : List ℕ) (kind : MgfKind) → fault_inside peaks (line_form line) ≡ Some kind
+    → line_form last ≡ end → line ≡ last → ⊥
 end_is_no_fault peaks line last kind bad ends same =
-    not_none kind (sym (ap (fault_inside peaks) (ap form_of same ∙ ends)) ∙ bad)
+    not_none kind (sym (ap (fault_inside peaks) (ap line_form same ∙ ends)) ∙ bad)
 
-outside_is_no_begin : (line first : List ℕ) → IsOutside line → form_of first ≡ begin → line ≡ first → ⊥
-outside_is_no_begin line first is begins same = is.no_begin (ap form_of same ∙ begins)
+outside_is_no_begin : (line first : List ℕ) → IsOutside line → line_form first ≡ begin → line ≡ first → ⊥
+outside_is_no_begin line first is begins same = is.no_begin (ap line_form same ∙ begins)
 
 outside_is_not_stray : (line other : List ℕ) (kind : MgfKind) → IsOutside line
-    → fault_outside (form_of other) ≡ Some kind → other ≡ line → ⊥
+    → fault_outside (line_form other) ≡ Some kind → other ≡ line → ⊥
 outside_is_not_stray line other kind is bad same =
-    not_none kind (sym is.right ∙ ap (λ (l : List ℕ). fault_outside (form_of l)) (sym same) ∙ bad)
+    not_none kind (sym is.right ∙ ap (λ (l : List ℕ). fault_outside (line_form l)) (sym same) ∙ bad)
 
 -- the lines of a block and what follows, as its body and its last line before the rest
 block_lines : (body : List (List ℕ)) (last : List ℕ) (more : List (List ℕ))
@@ -312,18 +312,18 @@ same_open at_end n m fault another line told said = cc
 same_line : (n m a b : ℕ) → n ≡ m → a ≡ b → n + 1 + a ≡ m + 1 + b
 same_line n m a b one two = cc
 
-same_kind_outside : (line twin : List ℕ) (kind other : MgfKind) → line ≡ twin → fault_outside (form_of line) ≡ Some kind
-    → fault_outside (form_of twin) ≡ Some other → kind ≡ other
+same_kind_outside : (line twin : List ℕ) (kind other : MgfKind) → line ≡ twin → fault_outside (line_form line) ≡ Some kind
+    → fault_outside (line_form twin) ≡ Some other → kind ≡ other
 same_kind_outside line twin kind other same bad wrong =
-    same_kind kind other (sym bad ∙ ap (λ (l : List ℕ). fault_outside (form_of l)) same ∙ wrong)
+    same_kind kind other (sym bad ∙ ap (λ (l : List ℕ). fault_outside (line_form l)) same ∙ wrong)
 
 same_kind_inside : (body lines : List (List ℕ)) (line twin : List ℕ) (kind other : MgfKind) → body ≡ lines → line ≡ twin
-    → fault_inside (length (peaks_of 0 body)) (form_of line) ≡ Some kind
-    → fault_inside (length (peaks_of 0 lines)) (form_of twin) ≡ Some other → kind ≡ other
+    → fault_inside (length (peaks_of 0 body)) (line_form line) ≡ Some kind
+    → fault_inside (length (peaks_of 0 lines)) (line_form twin) ≡ Some other → kind ≡ other
 same_kind_inside body lines line twin kind other same_body same bad wrong =
-    same_kind kind other (sym bad ∙ ap (λ (b : List (List ℕ)). fault_inside (length (peaks_of 0 b)) (form_of line))
+    same_kind kind other (sym bad ∙ ap (λ (b : List (List ℕ)). fault_inside (length (peaks_of 0 b)) (line_form line))
     same_body
-    ∙ ap (λ (l : List ℕ). fault_inside (length (peaks_of 0 lines)) (form_of l)) same ∙ wrong)
+    ∙ ap (λ (l : List ℕ). fault_inside (length (peaks_of 0 lines)) (line_form l)) same ∙ wrong)
 
 -- a rest leads to one fault only
 faults_once : (at_end : Bool) (n m : ℕ) (rest left : List (List ℕ)) (fault another : Option MgfFault) → n ≡ m

@@ -10,9 +10,9 @@ use Rattle.mgf_reader.specs.declared.fault.MgfFault.{MgfFault}
 use Rattle.mgf_reader.specs.declared.fault.FeedFault.{FeedFault}
 use Rattle.mgf_reader.specs.declared.fault.FeedFault.TheVariants.{Mgf, OutOfMemory}
 use Rattle.mgf_reader.specs.Spectrum.{SpectrumValue}
-use Rattle.mgf_reader.specs.Text.{greatest_line, without_mark, ended_lines, unfinished_line, line_if_any, lines_of}
+use Rattle.mgf_reader.specs.Text.{greatest_line, without_mark, ended_lines, unfinished_line, line_if_any, text_lines}
 use Rattle.mgf_reader.specs.Text.{judged_lines}
-use Rattle.mgf_reader.specs.LineForm.{LineForm, too_long, begin, end, form_of}
+use Rattle.mgf_reader.specs.LineForm.{LineForm, too_long, begin, end, line_form}
 use Rattle.mgf_reader.specs.Grammar.{fault_outside, fault_inside, peaks_of, IsInside, Piece, outside, block}
 use Rattle.mgf_reader.specs.Grammar.{piece_lines, IsPiece, Rest, nothing, stray, refused, open_block, ReadsLines, Reads}
 use Rattle.mgf_reader.specs.Grammar.{SoFar}
@@ -28,7 +28,7 @@ use Rattle.mgf_reader.proofs.EndedLines.{ended-fed, unfinished-fed}
 
 -- each line of a reading without a fault is of a right length
 abbrev IsFine : List ℕ → Type 0
-IsFine line = form_of line ≡ too_long → ⊥
+IsFine line = line_form line ≡ too_long → ⊥
 
 inside-fine : (line : List ℕ) → IsInside line → IsFine line
 inside-fine line inside = λ long. let bad : Some LineTooLong ≡ None = sym (ap (fault_inside 0) long) ∙ inside.right in
@@ -69,7 +69,7 @@ rest-fine (first ∷ body) opened = (
 )
 
 pub none-too_long : (old : Judged) (lines : List (List ℕ)) (out : List SpectrumValue) (front : List (List ℕ))
-    (line : List ℕ) → Follows old lines out → lines ≡ front ++ line ∷ [] → form_of line ≡ too_long → ⊥
+    (line : List ℕ) → Follows old lines out → lines ≡ front ++ line ∷ [] → line_form line ≡ too_long → ⊥
 none-too_long old lines out front line follows is =
     let all : AllByRecursion IsFine (flat_map piece_lines follows.pieces ++ follows.rest) =
     all-append IsFine (flat_map piece_lines follows.pieces) follows.rest (pieces-fine follows.pieces follows.right)
@@ -143,7 +143,7 @@ extends true [] old lines out follows =
       part = ([], sym (append-nil (out ++ old.waiting)));
     }
 extends at_end (line ∷ more) old lines out follows =
-    let new : Judged = left_behind (counted old) (form_of line) in
+    let new : Judged = left_behind (counted old) (line_form line) in
     ⊎_elim
     (λ right.
     let after = extends at_end more new (lines ++ line ∷ []) out (follows-next old lines out line right follows) in
@@ -151,7 +151,7 @@ extends at_end (line ∷ more) old lines out follows =
       all = after.all;
       fault = after.fault;
       reads = subst (λ l. ReadsLines at_end l after.all after.fault) (append_assoc lines (line ∷ []) more) after.reads;
-      part = first_part-join old.waiting new.waiting after.all out (left-waits old (form_of line)) after.part;
+      part = first_part-join old.waiting new.waiting after.all out (left-waits old (line_form line)) after.part;
     })
     (λ bad. record {
       all = out ++ old.waiting;
@@ -159,7 +159,7 @@ extends at_end (line ∷ more) old lines out follows =
       reads = follows-fault at_end old lines out line more bad.0 bad.1 follows;
       part = ([], sym (append-nil (out ++ old.waiting)));
     })
-    (option-known (fault_behind old (form_of line)))
+    (option-known (fault_behind old (line_form line)))
 
 -- a fault stays where lines are added
 rest-longer : (at_end : Bool) (number : ℕ) (rest extra : List (List ℕ)) (fault : MgfFault)
@@ -210,7 +210,7 @@ last-place (known ∷ front) line more (other ∷ init) last is =
 
 -- a fault stays where the last line, too long already, grows on
 rest-grows : (at_end : Bool) (number : ℕ) (front init rest extra : List (List ℕ)) (last longer : List ℕ)
-    (fault : MgfFault) → init ++ last ∷ [] ≡ front ++ rest → form_of last ≡ form_of longer
+    (fault : MgfFault) → init ++ last ∷ [] ≡ front ++ rest → line_form last ≡ line_form longer
     → Rest false number rest (Some fault) → (grown : List (List ℕ)) × (init ++ longer ∷ extra ≡ front ++ grown)
     × Rest at_end number grown (Some fault)
 rest-grows at_end number front init rest extra last longer fault whole same (nothing empty is) = absurd cc
@@ -219,7 +219,7 @@ rest-grows at_end number front init rest extra last longer fault whole same (str
     (λ at. (
       longer ∷ extra,
       ap (λ l. l ++ longer ∷ extra) (sym at.0),
-      stray longer extra kind refl (ap fault_outside (sym same ∙ ap form_of (sym at.1)) ∙ bad) named,
+      stray longer extra kind refl (ap fault_outside (sym same ∙ ap line_form (sym at.1)) ∙ bad) named,
     ))
     (λ within. (
       line ∷ (within.between ++ longer ∷ extra),
@@ -236,7 +236,7 @@ rest-grows at_end number front init rest extra last longer fault whole same
       ap (λ l. l ++ longer ∷ extra) (sym at.0)
           ∙ append_assoc front (first ∷ body) (longer ∷ extra),
       refused first body longer extra kind refl begins is_body
-          (ap (fault_inside (length (peaks_of 0 body))) (sym same ∙ ap form_of (sym at.1)) ∙ bad) named,
+          (ap (fault_inside (length (peaks_of 0 body))) (sym same ∙ ap line_form (sym at.1)) ∙ bad) named,
     ))
     (λ within. (
       first ∷ (body ++ line ∷ (within.between ++ longer ∷ extra)),
@@ -251,7 +251,7 @@ rest-grows at_end number front init rest extra last longer fault whole same
     (open_block first body is begins is_body named) = absurd cc
 
 pub fault-grows : (at_end : Bool) (init extra : List (List ℕ)) (last longer : List ℕ) (spectra : List SpectrumValue)
-    (fault : MgfFault) → form_of last ≡ form_of longer → ReadsLines false (init ++ last ∷ []) spectra (Some fault)
+    (fault : MgfFault) → line_form last ≡ line_form longer → ReadsLines false (init ++ last ∷ []) spectra (Some fault)
     → ReadsLines at_end (init ++ longer ∷ extra) spectra (Some fault)
 fault-grows at_end init extra last longer spectra fault same reads =
     let grown = rest-grows at_end (1 + length (flat_map piece_lines reads.pieces))
@@ -269,7 +269,7 @@ fault-grows at_end init extra last longer spectra fault same reads =
 abbrev long_line : List ℕ → List (List ℕ)
 long_line line = if nat_lt greatest_line (length line) then line ∷ [] else []
 
-pub is-too_long : (line : List ℕ) → nat_lt greatest_line (length line) ≡ true → form_of line ≡ too_long
+pub is-too_long : (line : List ℕ) → nat_lt greatest_line (length line) ≡ true → line_form line ≡ too_long
 is-too_long line long = rw long refl
 
 pub judged-long : (text : List ℕ) → nat_lt greatest_line (length (unfinished_line (without_mark text))) ≡ true
@@ -443,7 +443,7 @@ pub fault-ends : (text : List ℕ) (spectra : List SpectrumValue) (fault : MgfFa
 fault-ends text spectra fault reads =
     ⊎_elim
     (λ long.
-    let same : judged_lines text ++ [] ≡ lines_of text = append-nil (judged_lines text) ∙ judged-long text long
+    let same : judged_lines text ++ [] ≡ text_lines text = append-nil (judged_lines text) ∙ judged-long text long
     ∙ ap (λ l. ended_lines (without_mark text) ++ l) (sym (any-long (unfinished_line (without_mark text)) long)) in
     subst (λ l. ReadsLines true l spectra (Some fault)) same
     (fault-longer true (judged_lines text) [] spectra fault reads))
@@ -499,7 +499,7 @@ reading-ends text spectra None reads =
     let follows = reading-follows (judged_lines text) spectra reads in
     let rest : List (List ℕ) = line_if_any (unfinished_line (without_mark text)) in
     let whole = extends true rest _ (judged_lines text) [] follows in
-    let same : judged_lines text ++ rest ≡ lines_of text =
+    let same : judged_lines text ++ rest ≡ text_lines text =
     ap (λ l. l ++ rest) (judged-short text (follows-short _ text [] follows)) in
     record {
       all = whole.all;

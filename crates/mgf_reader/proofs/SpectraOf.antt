@@ -8,7 +8,7 @@ use borrow.Author.Tests.{leb-false}
 use Rattle.mgf_reader.specs.declared.fault.MgfKind.TheVariants.{BadPeak, TooManyPeaks}
 use Rattle.fixed_mass.specs.Units.{readable_units}
 use Rattle.mgf_reader.specs.Spectrum.{PeakValue}
-use Rattle.mgf_reader.specs.LineForm.{LineForm, peak, form_of}
+use Rattle.mgf_reader.specs.LineForm.{LineForm, peak, line_form}
 use Rattle.mgf_reader.specs.Parameter.{Key, title, precursor, charge, value_in, last_value, title_of, precursor_of}
 use Rattle.mgf_reader.specs.Parameter.{charge_list_of}
 use Rattle.mgf_reader.specs.PeakLine.{peak_of, intensity_of}
@@ -28,35 +28,35 @@ all-back P [] ys a = a
 all-back P (x ∷ xs) ys a = all-back P xs ys a.1
 
 -- what the last line of a key says, with one line more
-last_value-push : (key : Key) (lines : List (List ℕ)) (line value : List ℕ) → value_in key (form_of line) ≡ Some value
+last_value-push : (key : Key) (lines : List (List ℕ)) (line value : List ℕ) → value_in key (line_form line) ≡ Some value
     → last_value key (lines ++ line ∷ []) ≡ Some value
 last_value-push key [] line value is = is
 last_value-push key (other ∷ lines) line value is = rw (last_value-push key lines line value is) refl
 
-last_value-stays : (key : Key) (lines : List (List ℕ)) (line : List ℕ) → value_in key (form_of line) ≡ None
+last_value-stays : (key : Key) (lines : List (List ℕ)) (line : List ℕ) → value_in key (line_form line) ≡ None
     → last_value key (lines ++ line ∷ []) ≡ last_value key lines
 last_value-stays key [] line is = is
 last_value-stays key (other ∷ lines) line is = rw (last_value-stays key lines line is) refl
 
-title-push : (lines : List (List ℕ)) (line : List ℕ) (value : Option (List ℕ)) → value_in title (form_of line) ≡ value
+title-push : (lines : List (List ℕ)) (line : List ℕ) (value : Option (List ℕ)) → value_in title (line_form line) ≡ value
     → title_of (lines ++ line ∷ []) ≡ title_after (title_of lines) value
 title-push lines line None is = rw (last_value-stays title lines line is) refl
 title-push lines line (Some value) is = rw (last_value-push title lines line value is) refl
 
 precursor-push : (lines : List (List ℕ)) (line : List ℕ) (value : Option (List ℕ))
-    → value_in precursor (form_of line) ≡ value
+    → value_in precursor (line_form line) ≡ value
     → precursor_of (lines ++ line ∷ []) ≡ precursor_after (precursor_of lines) value
 precursor-push lines line None is = rw (last_value-stays precursor lines line is) refl
 precursor-push lines line (Some value) is = rw (last_value-push precursor lines line value is) refl
 
 charges-push : (lines : List (List ℕ)) (line : List ℕ) (value : Option (List ℕ))
-    → value_in charge (form_of line) ≡ value
+    → value_in charge (line_form line) ≡ value
     → charge_list_of (lines ++ line ∷ []) ≡ charges_after (charge_list_of lines) value
 charges-push lines line None is = rw (last_value-stays charge lines line is) refl
 charges-push lines line (Some value) is = rw (last_value-push charge lines line value is) refl
 
 -- what some lines set, with one line more
-pub defaults-push : (lines : List (List ℕ)) (line : List ℕ) (form : LineForm) → form_of line ≡ form
+pub defaults-push : (lines : List (List ℕ)) (line : List ℕ) (form : LineForm) → line_form line ≡ form
     → defaults_of (lines ++ line ∷ []) ≡ set_by (defaults_of lines) form
 defaults-push lines line form is =
     let a = title-push lines line (value_in title form) (ap (value_in title) is) in
@@ -87,20 +87,20 @@ peak_in-length m n form = refl
 pub peaks_of-length : (m n : ℕ) (lines : List (List ℕ)) → length (peaks_of m lines) ≡ length (peaks_of n lines)
 peaks_of-length m n [] = refl
 peaks_of-length m n (line ∷ lines) =
-    length-append (peak_in m (form_of line)) (peaks_of (m + 1) lines)
-    ∙ cc (peak_in-length m n (form_of line), peaks_of-length (m + 1) (n + 1) lines)
-    ∙ sym (length-append (peak_in n (form_of line)) (peaks_of (n + 1) lines))
+    length-append (peak_in m (line_form line)) (peaks_of (m + 1) lines)
+    ∙ cc (peak_in-length m n (line_form line), peaks_of-length (m + 1) (n + 1) lines)
+    ∙ sym (length-append (peak_in n (line_form line)) (peaks_of (n + 1) lines))
 
 -- the peaks of some lines and of one more
-pub peaks_of-push : (number : ℕ) (lines : List (List ℕ)) (line : List ℕ) (form : LineForm) → form_of line ≡ form
+pub peaks_of-push : (number : ℕ) (lines : List (List ℕ)) (line : List ℕ) (form : LineForm) → line_form line ≡ form
     → peaks_of number (lines ++ line ∷ []) ≡ peaks_of number lines ++ peak_in (number + length lines) form
-peaks_of-push number [] line form is = append-nil (peak_in number (form_of line)) ∙ ap (peak_in number) is
+peaks_of-push number [] line form is = append-nil (peak_in number (line_form line)) ∙ ap (peak_in number) is
     ∙ ap (λ n. peak_in n form) (sym (add-zero number))
 peaks_of-push number (other ∷ lines) line form is =
     let more : number + 1 + length lines ≡ number + length (other ∷ lines) = omega arith in
-    ap (λ peaks. peak_in number (form_of other) ++ peaks) (peaks_of-push (number + 1) lines line form is
+    ap (λ peaks. peak_in number (line_form other) ++ peaks) (peaks_of-push (number + 1) lines line form is
     ∙ ap (λ n. peaks_of (number + 1) lines ++ peak_in n form) more)
-    ∙ sym (append_assoc (peak_in number (form_of other)) (peaks_of (number + 1) lines)
+    ∙ sym (append_assoc (peak_in number (line_form other)) (peaks_of (number + 1) lines)
     (peak_in (number + length (other ∷ lines)) form))
 
 -- a line that has a place in a block has one whatever the number of peaks, and leaves no more of them than a block may

@@ -12,8 +12,8 @@ use Rattle.mgf_reader.specs.declared.fault.FeedFault.{FeedFault}
 use Rattle.mgf_reader.specs.declared.fault.FeedFault.TheVariants.{Mgf, OutOfMemory}
 use Rattle.mgf_reader.specs.Spectrum.{SpectrumValue}
 use Rattle.mgf_reader.specs.Text.{greatest_line, byte_order_mark, without_mark, ended_lines, unfinished_line}
-use Rattle.mgf_reader.specs.Text.{line_if_any, lines_of, judged_lines}
-use Rattle.mgf_reader.specs.LineForm.{too_long, form_of}
+use Rattle.mgf_reader.specs.Text.{line_if_any, text_lines, judged_lines}
+use Rattle.mgf_reader.specs.LineForm.{too_long, line_form}
 use Rattle.mgf_reader.specs.Grammar.{Piece, piece_lines, IsPiece, spectra_of, Rest, nothing, ReadsLines, Reads, SoFar}
 use Rattle.mgf_reader.specs.Stands.{ReaderValue, IsLeft, Stands, Answers, Broken}
 use Rattle.mgf_reader.specs.inside.Cutting.{Kept, reader_with, TakesIn, Ends, HasNoLineFeed}
@@ -181,12 +181,12 @@ takes-broken kept new bytes waits = λ text out stands.
 -- a line that a line feed ends
 pub takes-line : (kept : Kept) (part unfinished : List ℕ) (new : Judged) (result : Result (Unit {0}) FeedFault)
     → HasNoLineFeed part → unfinished ≡ []
-    → Judges kept.lines (form_of (line_at kept.lines.judged (kept.unfinished ++ part))) result new
+    → Judges kept.lines (line_form (line_at kept.lines.judged (kept.unfinished ++ part))) result new
     → TakesIn kept (part ++ 10 ∷ []) result (record { unfinished = unfinished; lines = new })
 takes-line kept part unfinished new (Ok done) free none judges = λ text out stands.
     let goes = stands-goes kept text out stands in
     let line : List ℕ = line_at kept.lines.judged (kept.unfinished ++ part) in
-    let next : Follows (left_behind (counted kept.lines) (form_of line)) (judged_lines text ++ line ∷ []) out =
+    let next : Follows (left_behind (counted kept.lines) (line_form line)) (judged_lines text ++ line ∷ []) out =
     follows-next kept.lines (judged_lines text) out line judges.0 goes.follows in
     let there : Follows new (judged_lines text ++ line ∷ []) out =
     subst (λ j. Follows j (judged_lines text ++ line ∷ []) out) (sym judges.1) next in
@@ -262,7 +262,7 @@ takes-long kept part unfinished fault free long named = λ text out stands.
     judged-long (text ++ part) (ap (λ u. nat_lt greatest_line (length u)) same ∙ is_long)
     ∙ ap (λ l. l ++ unfinished_line (without_mark (text ++ part)) ∷ []) (c.kept_lines ∙ sym now)
     ∙ ap (λ u. judged_lines text ++ u ∷ []) same in
-    let bad : fault_behind kept.lines (form_of line) ≡ Some LineTooLong =
+    let bad : fault_behind kept.lines (line_form line) ≡ Some LineTooLong =
     ap (fault_behind kept.lines) (is-too_long line is_long) ∙ long-behind kept.lines in
     let reads : ReadsLines false (judged_lines text ++ line ∷ []) (out ++ kept.lines.waiting)
     (Some (record { line = kept.lines.judged + 1; kind = LineTooLong })) =
@@ -328,7 +328,7 @@ takes-stops old new first second OutOfMemory before =
 
 -- all lines of a text, from where it is judged so far
 lines-now : (kept : Kept) (text : List ℕ) (out : List SpectrumValue) → Goes kept text out
-    → lines_of text ≡ judged_lines text ++ line_if_any (line_at kept.lines.judged kept.unfinished)
+    → text_lines text ≡ judged_lines text ++ line_if_any (line_at kept.lines.judged kept.unfinished)
 lines-now kept text out goes =
     let now : judged_lines text ≡ ended_lines (without_mark text) =
     judged-short text (follows-short kept.lines text out goes.follows) in
@@ -339,7 +339,7 @@ lines-now kept text out goes =
     ∙ ap (λ u. judged_lines text ++ line_if_any u) line
 
 ends-by : (text : List ℕ) (spectra : List SpectrumValue) (lines : List (List ℕ)) (block : Option SpectrumValue)
-    (answer : Result (Unit {0}) FeedFault) → lines_of text ≡ lines → answer ≡ end_of block → IsEnd lines spectra block
+    (answer : Result (Unit {0}) FeedFault) → text_lines text ≡ lines → answer ≡ end_of block → IsEnd lines spectra block
     → Answers (Reads text) spectra answer × Broken (Reads text) spectra
 ends-by text spectra lines block answer same is ended =
     let reads : Reads text spectra ended.fault =
@@ -357,7 +357,7 @@ ends-empty kept answer none is = by answer is where
       → Answers (Reads text) (out ++ kept.lines.waiting) answer × Broken (Reads text) (out ++ kept.lines.waiting)
   both answer is = λ text out stands.
       let goes = stands-goes kept text out stands in
-      let same : lines_of text ≡ judged_lines text = lines-now kept text out goes
+      let same : text_lines text ≡ judged_lines text = lines-now kept text out goes
       ∙ ap (λ l. judged_lines text ++ line_if_any l) none ∙ append-nil (judged_lines text) in
       ends-by text (out ++ kept.lines.waiting) (judged_lines text) kept.lines.block answer same is
       (follows-end_of kept.lines (judged_lines text) out goes.follows)
@@ -374,7 +374,7 @@ any-line (byte ∷ bytes) some = refl
 -- the text ends with a line that no line feed ends
 pub ends-line : (kept : Kept) (unfinished : List ℕ) (new : Judged) (answer : Result (Unit {0}) FeedFault)
     (line : List ℕ) → line ≡ line_at kept.lines.judged kept.unfinished → 0 < length line
-    → Judges kept.lines (form_of line) (Ok tt) new → answer ≡ end_of new.block
+    → Judges kept.lines (line_form line) (Ok tt) new → answer ≡ end_of new.block
     → Ends kept answer (record { unfinished = unfinished; lines = new })
 ends-line kept unfinished new answer line named some judges is = by answer is where
   both : (answer : Result (Unit {0}) FeedFault) → answer ≡ end_of new.block → (text : List ℕ) (out : List SpectrumValue)
@@ -382,10 +382,10 @@ ends-line kept unfinished new answer line named some judges is = by answer is wh
       → Answers (Reads text) (out ++ new.waiting) answer × Broken (Reads text) (out ++ new.waiting)
   both answer is = λ text out stands.
       let goes = stands-goes kept text out stands in
-      let same : lines_of text ≡ judged_lines text ++ line ∷ [] = lines-now kept text out goes
+      let same : text_lines text ≡ judged_lines text ++ line ∷ [] = lines-now kept text out goes
       ∙ ap (λ l. judged_lines text ++ line_if_any l) (sym named)
       ∙ ap (λ l. judged_lines text ++ l) (any-line line some) in
-      let next : Follows (left_behind (counted kept.lines) (form_of line)) (judged_lines text ++ line ∷ []) out =
+      let next : Follows (left_behind (counted kept.lines) (line_form line)) (judged_lines text ++ line ∷ []) out =
       follows-next kept.lines (judged_lines text) out line judges.0 goes.follows in
       let there : Follows new (judged_lines text ++ line ∷ []) out =
       subst (λ j. Follows j (judged_lines text ++ line ∷ []) out) (sym judges.1) next in
@@ -401,11 +401,11 @@ ends-line kept unfinished new answer line named some judges is = by answer is wh
 -- or with one that is refused
 pub ends-fault : (kept : Kept) (unfinished : List ℕ) (new : Judged) (fault : FeedFault) (line : List ℕ)
     → line ≡ line_at kept.lines.judged kept.unfinished → 0 < length line
-    → Judges kept.lines (form_of line) (Err fault) new
+    → Judges kept.lines (line_form line) (Err fault) new
     → Ends kept (Err fault) (record { unfinished = unfinished; lines = new })
 ends-fault kept unfinished new (Mgf fault) line is some judges = λ text out stands.
     let goes = stands-goes kept text out stands in
-    let same : lines_of text ≡ judged_lines text ++ line ∷ [] = lines-now kept text out goes
+    let same : text_lines text ≡ judged_lines text ++ line ∷ [] = lines-now kept text out goes
     ∙ ap (λ l. judged_lines text ++ line_if_any l) (sym is) ∙ ap (λ l. judged_lines text ++ l) (any-line line some) in
     let named : MgfFault = record { line = kept.lines.judged + 1; kind = fault.kind } in
     let named_is : named ≡ fault = ap (λ n. let f : MgfFault = record { line = n; kind = fault.kind } in f)

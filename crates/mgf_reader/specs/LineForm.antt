@@ -42,5 +42,5 @@ form_within (first ∷ rest) =
     else no_form
 
 -- the form of a line without its line feed
-abbrev pub form_of : List ℕ → LineForm
-form_of line = if nat_lt greatest_line (length line) then too_long else form_within (trimmed is_edge line)
+abbrev pub line_form : List ℕ → LineForm
+line_form line = if nat_lt greatest_line (length line) then too_long else form_within (trimmed is_edge line)

@@ -13,7 +13,7 @@ use Rattle.toml.specs.declared.value.Value.{Value}
 use Rattle.std.specs.Prelude.{String}
 use Rattle.std.specs.declared.alloc.Global.{Global}
 use Rattle.profile.specs.inside.Counted.{items_excess, keys_excess}
-use Rattle.profile.specs.Form.{bound_of, item_bounds, items_len, members_len, too_many}
+use Rattle.profile.specs.Form.{pair_bound, item_bounds, items_len, members_len, too_many}
 
 pub items_len-view : (values : List Value) → items_len (items_view values) ≡ length values
 items_len-view [] = refl
@@ -74,7 +74,7 @@ pub bounds_from : List Value → ℕ → List ℤ
 bounds_from values place = item_bounds (items_view (drop place values))
 
 bounds_from-drop : (values : List Value) (place : ℕ) (none : Value) → place < length values
-    → bounds_from values place ≡ bound_of (view (get_or values place none)) ∷ bounds_from values (place + 1)
+    → bounds_from values place ≡ pair_bound (view (get_or values place none)) ∷ bounds_from values (place + 1)
 unfolding bounds_from
 bounds_from-drop values place none within = ap item_bounds (items_view-drop values place none within)
 
@@ -89,21 +89,21 @@ ordered_none comes last values place past = rw (bounds_from-end values place pas
 
 pub ordered_last : (comes : ℤ → ℤ → Bool) (last : ℤ) (values : List Value) (place : ℕ) (none : Value)
     → place + 1 ≡ length values
-    → are_ordered comes last (bounds_from values place) ≡ int_eq (bound_of (view (get_or values place none))) last
+    → are_ordered comes last (bounds_from values place) ≡ int_eq (pair_bound (view (get_or values place none))) last
 ordered_last comes last values place none is =
     rw (bounds_from-drop values place none (omega arith), bounds_from-end values (place + 1) (omega arith))
 
 pub ordered_more : (comes : ℤ → ℤ → Bool) (last : ℤ) (values : List Value) (place : ℕ) (none : Value)
     → place + 1 < length values
     → are_ordered comes last (bounds_from values place)
-    ≡ (comes (bound_of (view (get_or values place none))) (bound_of (view (get_or values (place + 1) none)))
+    ≡ (comes (pair_bound (view (get_or values place none))) (pair_bound (view (get_or values (place + 1) none)))
     && are_ordered comes last (bounds_from values (place + 1)))
 ordered_more comes last values place none within =
     let next = bounds_from-drop values (place + 1) none within in
     ap (are_ordered comes last) (bounds_from-drop values place none (omega arith)
-    ∙ ap (λ bounds. bound_of (view (get_or values place none)) ∷ bounds) next)
-    ∙ ap (λ bounds. comes (bound_of (view (get_or values place none)))
-    (bound_of (view (get_or values (place + 1) none))) && are_ordered comes last bounds) (sym next)
+    ∙ ap (λ bounds. pair_bound (view (get_or values place none)) ∷ bounds) next)
+    ∙ ap (λ bounds. comes (pair_bound (view (get_or values place none)))
+    (pair_bound (view (get_or values (place + 1) none))) && are_ordered comes last bounds) (sym next)
 
 pub bounds_from-start : (values : List Value) → bounds_from values 0 ≡ item_bounds (items_view values)
 unfolding bounds_from
@@ -112,19 +112,19 @@ bounds_from-start values = refl
 -- the same of bounds that a program compared
 pub ordered_step : (comes : ℤ → ℤ → Bool) (last : ℤ) (values : List Value) (place : ℕ) (value next : Value)
     (bound next_bound : ℤ) (answer : Bool) → place + 1 < length values
-    → get_or values place value ≡ value → get_or values (place + 1) value ≡ next → bound ≡ bound_of (view value)
-    → next_bound ≡ bound_of (view next) → FitsSigned w64 bound → FitsSigned w64 next_bound
+    → get_or values place value ≡ value → get_or values (place + 1) value ≡ next → bound ≡ pair_bound (view value)
+    → next_bound ≡ pair_bound (view next) → FitsSigned w64 bound → FitsSigned w64 next_bound
     → answer ≡ comes (to_z w64 (of_z w64 bound)) (to_z w64 (of_z w64 next_bound))
     → are_ordered comes last (bounds_from values place)
     ≡ (answer && are_ordered comes last (bounds_from values (place + 1)))
 ordered_step comes last values place value next bound next_bound answer within here there bound_is next_is fits
     fits_next is =
-    let at : to_z w64 (of_z w64 bound) ≡ bound_of (view (get_or values place value)) = to_z-of_z w64 bound fits
-    ∙ bound_is ∙ ap (λ v. bound_of (view v)) (sym here) in
-    let after : to_z w64 (of_z w64 next_bound) ≡ bound_of (view (get_or values (place + 1) value)) =
-    to_z-of_z w64 next_bound fits_next ∙ next_is ∙ ap (λ v. bound_of (view v)) (sym there) in
-    let compared : answer ≡ comes (bound_of (view (get_or values place value)))
-    (bound_of (view (get_or values (place + 1) value))) = is ∙ ap (λ z. comes z (to_z w64 (of_z w64 next_bound))) at
-    ∙ ap (comes (bound_of (view (get_or values place value)))) after in
+    let at : to_z w64 (of_z w64 bound) ≡ pair_bound (view (get_or values place value)) = to_z-of_z w64 bound fits
+    ∙ bound_is ∙ ap (λ v. pair_bound (view v)) (sym here) in
+    let after : to_z w64 (of_z w64 next_bound) ≡ pair_bound (view (get_or values (place + 1) value)) =
+    to_z-of_z w64 next_bound fits_next ∙ next_is ∙ ap (λ v. pair_bound (view v)) (sym there) in
+    let compared : answer ≡ comes (pair_bound (view (get_or values place value)))
+    (pair_bound (view (get_or values (place + 1) value))) = is ∙ ap (λ z. comes z (to_z w64 (of_z w64 next_bound))) at
+    ∙ ap (comes (pair_bound (view (get_or values place value)))) after in
     ordered_more comes last values place value within
     ∙ ap (λ t. t && are_ordered comes last (bounds_from values (place + 1))) (sym compared)

@@ -37,9 +37,9 @@ pub rule_of_is_rule : (entries : Members) → IsFine rule entries → IsRule (ru
 rule_of_is_rule entries fine = record {
   places = length-element_numbers (table_at entries (codes "coefficients"));
   coefficients = λ place. coefficients_near entries
-    (option_and_then as_table (get_member (codes "coefficients") entries)) place fine refl;
+      (option_and_then as_table (get_member (codes "coefficients") entries)) place fine refl;
   constant = number_in_range rule entries (codes "constant") (negsuc 999999) (pos 1000000) (pos 0) fine
-    (λ known is. refl) (omega arith) (omega arith);
+      (λ known is. refl) (omega arith) (omega arith);
 }
 
 kept_or_not : (kept : Bool) (first : Members) (tables : List Members)
@@ -100,7 +100,7 @@ counted_once : (found : Option Members) (items : Items) (n : ℕ)
 counted_once None items n few = omega arith
 counted_once (Some entries) items n few =
     let split = one_of_two (is_neutral entries) entries (filter (is_kept false) (tables_in items))
-      (filter (is_kept true) (tables_in items)) in
+    (filter (is_kept true) (tables_in items)) in
     omega arith
 
 -- no item gives two of them

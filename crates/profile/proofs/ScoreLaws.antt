@@ -22,7 +22,7 @@ use Rattle.toml.specs.Data.{as_table, get_member, Items, no_items, item, Members
 use Rattle.profile.specs.inside.Fine.{AreFine, AreFineLosses, AreNearScores, AreShareItems, IsFine, IsShareItem}
 use Rattle.profile.specs.inside.Fine.{known_with}
 use Rattle.profile.specs.Form.{Form, scores, intensities, errors, pair, named_losses, implausible_losses, loss, number}
-use Rattle.profile.specs.Form.{score, are_pairs, bound_of, has_kind, is_pair, item_bounds, item_form, items_len}
+use Rattle.profile.specs.Form.{score, are_pairs, pair_bound, has_kind, is_pair, item_bounds, item_form, items_len}
 use Rattle.profile.specs.Form.{members_len, too_many}
 use Rattle.profile.specs.Losses.{is_free, key_formula, read_formula, taken_with}
 use Rattle.profile.specs.Places.{place_with, places_of_items, places_of_losses, places_under, point_after}
@@ -121,7 +121,7 @@ share_items form pairs (item value items) fine are =
 bounds_said : (items : Items) → AreShareItems items → bounds_of (shares_said items) ≡ item_bounds items
 bounds_said no_items right = refl
 bounds_said (item value items) right = rw (
-  pos-as_count (bound_of value) right.0.not_negative,
+  pos-as_count (pair_bound value) right.0.not_negative,
   bounds_said items right.1,
 )
 
@@ -132,7 +132,7 @@ length-shares_said (item value items) = ap suc (length-shares_said items)
 all_bounds : (items : Items) → AreShareItems items → All (λ pair. pair.0 ≤ greatest_share) (shares_said items)
 all_bounds no_items right = All-nil (λ (pair : ℕ × ℤ). pair.0 ≤ greatest_share)
 all_bounds (item value items) right = All-cons (λ (pair : ℕ × ℤ). pair.0 ≤ greatest_share) _ _
-    (as_count-le (bound_of value) greatest_share right.0.not_negative right.0.within) (all_bounds items right.1)
+    (as_count-le (pair_bound value) greatest_share right.0.not_negative right.0.within) (all_bounds items right.1)
 
 all_near : (items : Items) → AreShareItems items → All (λ pair. IsNearZero greatest_score pair.1) (shares_said items)
 all_near no_items right = All-nil (λ (pair : ℕ × ℤ). IsNearZero greatest_score pair.1)

@@ -169,15 +169,15 @@ are_pairs no_items = true
 are_pairs (item value items) = is_pair value && are_pairs items
 
 -- the bound of a pair, and its score
-abbrev pub bound_of : Data → ℤ
-bound_of value = unwrap_or (integer_at 0 value) (pos 0)
+abbrev pub pair_bound : Data → ℤ
+pair_bound value = unwrap_or (integer_at 0 value) (pos 0)
 
-abbrev pub score_of : Data → ℤ
-score_of value = unwrap_or (integer_at 1 value) (pos 0)
+abbrev pub pair_score : Data → ℤ
+pair_score value = unwrap_or (integer_at 1 value) (pos 0)
 
 abbrev pub item_bounds : Items → List ℤ
 item_bounds no_items = []
-item_bounds (item value items) = bound_of value ∷ item_bounds items
+item_bounds (item value items) = pair_bound value ∷ item_bounds items
 
 -- whether a value has the kind of its form
 abbrev pub has_kind : Form → Data → Bool

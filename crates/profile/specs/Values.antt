@@ -8,7 +8,7 @@ use Rattle.score_tables.specs.Default.{default_tables}
 use Rattle.score_tables.specs.Tables.{LossTable, ScoresValue, ShareTable, in_formula_order}
 use Rattle.toml.specs.Data.{Data, as_array, as_integer, as_table, get_member, Items, no_items, item, Members}
 use Rattle.toml.specs.Data.{no_members, member}
-use Rattle.profile.specs.Form.{bound_of, score_of}
+use Rattle.profile.specs.Form.{pair_bound, pair_score}
 use Rattle.profile.specs.Losses.{key_formula}
 use Rattle.profile.specs.Profile.{ProfileValue, default_profile_value}
 use Rattle.profile.specs.Table.{number_at, says, table_at, items_at, element_numbers}
@@ -56,7 +56,7 @@ rules_said neutral items = map rule_of (filter (is_kept neutral) (tables_in item
 
 -- the bound and the score of a pair
 abbrev pub pair_said : Data → ℕ × ℤ
-pair_said value = (as_count (bound_of value), score_of value)
+pair_said value = (as_count (pair_bound value), pair_score value)
 
 abbrev pub shares_said : Items → ShareTable
 shares_said no_items = []

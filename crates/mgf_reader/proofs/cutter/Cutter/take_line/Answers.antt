@@ -2,7 +2,7 @@ use Rattle.std.proofs.Common.{◌≡◌, ◌++◌, ℕ, List, [], ◌∷◌, len
 use Rattle.std.proofs.lemmas.Grind.{common_steps}
 use Rattle.std.proofs.lemmas.List.{nil_from_length}
 use Rattle.std.proofs.lemmas.Result.{err_from_is_err_and}
-use Rattle.mgf_reader.specs.LineForm.{form_of}
+use Rattle.mgf_reader.specs.LineForm.{line_form}
 use Rattle.mgf_reader.specs.inside.Judging.{line_at, Judges}
 use Rattle.mgf_reader.specs.inside.Cutting.{Kept, TakesIn}
 use Rattle.mgf_reader.proofs.TakesIn.{takes-line, takes-then, takes-stops}
@@ -15,9 +15,9 @@ returns-then-is_empty-clause-takes c =
     let bytes : List ℕ = c.args.part.now in
     let size : length held ≡ 0 = grind (arith, common_steps, c.self.inside.unfinished.ok.0) in
     let none : held ≡ [] = nil_from_length held size in
-    let judges : Judges kept.lines (form_of (line_at kept.lines.judged (held ++ bytes))) c.judge_line.result
+    let judges : Judges kept.lines (line_form (line_at kept.lines.judged (held ++ bytes))) c.judge_line.result
     c.judge_line.new.judge = subst (λ u. Judges kept.lines
-    (form_of (line_at kept.lines.judged (u ++ bytes))) c.judge_line.result c.judge_line.new.judge)
+    (line_form (line_at kept.lines.judged (u ++ bytes))) c.judge_line.result c.judge_line.new.judge)
     (sym none) c.judge_line.ensures.judges in
     subst (λ k. TakesIn k (bytes ++ 10 ∷ []) c.judge_line.result
     (record { unfinished = held; lines = c.judge_line.new.judge })) c.self.view_is
@@ -35,9 +35,9 @@ returns-clause-takes c =
     let kept : Kept = record { unfinished = held; lines = c.self-2.inside.judge } in
     let bytes : List ℕ = c.args.part.now in
     let line : c.deref.result.now ≡ held ++ [] = c.deref.ensures.value ∙ sym (append-nil held) in
-    let judges : Judges kept.lines (form_of (line_at kept.lines.judged (held ++ []))) c.judge_line-judged.result
+    let judges : Judges kept.lines (line_form (line_at kept.lines.judged (held ++ []))) c.judge_line-judged.result
     c.judge_line-judged.new.judge = subst (λ u. Judges kept.lines
-    (form_of (line_at kept.lines.judged u)) c.judge_line-judged.result c.judge_line-judged.new.judge) line
+    (line_form (line_at kept.lines.judged u)) c.judge_line-judged.result c.judge_line-judged.new.judge) line
     c.judge_line-judged.ensures.judges in
     let first : TakesIn c.args.self.now bytes (Ok tt) kept =
     subst (λ k. TakesIn c.args.self.now bytes (Ok tt) k) (sym c.self-2.view_is) c.in_ok-keep.ensures.takes in
