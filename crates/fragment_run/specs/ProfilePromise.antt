@@ -7,7 +7,6 @@ use Rattle.frag_io.specs.Desk.{IsCounted}
 use Rattle.profile.specs.Profile.{ProfileValue, default_profile_value}
 use Rattle.profile.specs.ProfileOf.{profile_of}
 use Rattle.profile.specs.declared.fault.ProfileFault.{ProfileFault}
-use Rattle.profile.specs.declared.fault.ProfileFault.TheVariants.{OutOfMemory}
 use Rattle.fragment_run.specs.Class.{class_of, memory, IsOfProfile}
 use Rattle.fragment_run.specs.Limits.{greatest_text_of}
 use Rattle.fragment_run.specs.declared.status.Status.{Status}
@@ -22,12 +21,12 @@ profile_outcome gives (Some name) = option_map profile_of (gives name)
 abbrev pub OnlyProfile : DeskState → Type 0
 OnlyProfile now = (slot : Slot) → slot ≢ Profile → now.begun slot ≡ false
 
--- The promise on the profile: a refusal is that of its text, and never for want of memory; where the profile stops the
--- run, or its text is refused, no other slot is begun; a text that is refused stops the run; and one within the limit
--- is told as refused where no fault of it is counted and memory is there.
+-- The promise on the profile: a refusal is that of its text; where the profile stops the run, or its text is refused, no
+-- other slot is begun; a text that is refused stops the run; and one within the limit is told as refused where no fault
+-- of it is counted and memory is there.
 pub record ProfilePromise (name : Option (List ℕ)) (before now : DeskState) (status : Status) : Type 0 where
   pub refusal : (fault : ProfileFault) → status ≡ ProfileRefused fault
-      → (fault ≢ OutOfMemory) × IfSome (option_and_then before.gives name) (λ text. profile_of text ≡ Err fault)
+      → IfSome (option_and_then before.gives name) (λ text. profile_of text ≡ Err fault)
   pub alone : IsOfProfile (class_of status) → OnlyProfile now
   pub unused : (fault : ProfileFault) → profile_outcome before.gives name ≡ Some (Err fault) → OnlyProfile now
   pub stops : (fault : ProfileFault) → profile_outcome before.gives name ≡ Some (Err fault)

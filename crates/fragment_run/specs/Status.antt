@@ -5,7 +5,7 @@ use Rattle.frag_io.specs.declared.desk.Slot.{Slot}
 use Rattle.frag_io.specs.declared.desk.Slot.TheVariants.{Spectra, Profile, CertIn, Report, CertOut}
 use Rattle.std.specs.Fmt.{signed_decimal}
 use Rattle.profile.specs.declared.fault.ProfileFault.{ProfileFault}
-use Rattle.profile.specs.declared.fault.ProfileFault.TheVariants.{NotToml, UnknownKey, BadValue, OverLimit, OutOfMemory}
+use Rattle.profile.specs.declared.fault.ProfileFault.TheVariants.{NotToml, UnknownKey, BadValue, OverLimit}
 use Rattle.tree_certificate.specs.Title.{escaped}
 use Rattle.fragment_run.specs.declared.status.Status.{Status}
 use Rattle.fragment_run.specs.declared.status.Status.TheVariants.{Done, Words, Memory, ReadFault, WriteFault}
@@ -41,7 +41,6 @@ refusal_text NotToml = codes "not TOML"
 refusal_text (UnknownKey name) = codes "unknown key " ++ escaped name
 refusal_text (BadValue name) = codes "bad value " ++ escaped name
 refusal_text (OverLimit name number) = codes "out of range " ++ escaped name ++ codes " " ++ signed_decimal number
-refusal_text OutOfMemory = codes "no memory"
 
 -- why the bytes of a document are refused
 abbrev pub document_refusal_text : CertFault → List ℕ

@@ -14,7 +14,7 @@ ghost use Rattle.fragment_run.specs.inside.Running.{Ends, Runs};
 use crate::status::Status;
 use crate::steps::{begin_slot, read_text};
 use frag_io::{Desk, Slot};
-use profile::{Profile, ProfileFault, default_profile, read_profile};
+use profile::{Profile, ProfileError, default_profile, read_profile};
 use std::alloc::Global;
 
 /// Reads the profile that a name gives, or takes the default one where there is no name.
@@ -68,16 +68,16 @@ fn read_named<D: Desk>(alloc: Global, name: &str, desk: &mut D) -> Result<Profil
     let text = read_text(alloc, desk, Slot::Profile)?;
     match read_profile(alloc, &text) {
         Ok(profile) => Ok(profile),
-        Err(fault) => Err(refusal(fault)),
+        Err(error) => Err(refusal(error)),
     }
 }
 
 /// What a run answers where no profile was read.
-fn refusal(fault: ProfileFault) -> Status
-    ensures { result ≡ refusal_of fault }
+fn refusal(error: ProfileError) -> Status
+    ensures { result ≡ refusal_of error }
 {
-    match fault {
-        ProfileFault::OutOfMemory => Status::Memory,
-        _ => Status::ProfileRefused(fault),
+    match error {
+        ProfileError::Refused(fault) => Status::ProfileRefused(fault),
+        ProfileError::OutOfMemory => Status::Memory,
     }
 }

@@ -126,7 +126,6 @@ fn push_refusal(alloc: Global, line: &mut Vec<u8>, fault: &ProfileFault) -> Resu
             let digits = number.to_string(alloc)?;
             line.extend_from_slice(digits.as_bytes())?;
         }
-        ProfileFault::OutOfMemory => line.extend_from_slice(b"no memory")?,
     }
     Ok(())
 }
