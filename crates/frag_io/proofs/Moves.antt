@@ -1,6 +1,6 @@
 -- For `Moves`: a read takes the next bytes of a file.
-use Rattle.std.proofs.Common.{◌≡◌, ◌≤◌, ◌+◌, ◌++◌, ℕ, List, Option, Some, None, Vec, String, length, take, drop, sym}
-use Rattle.std.proofs.Common.{ap, ◌∙◌, take-append-drop}
+use Rattle.std.proofs.Common.{◌≡◌, ◌≤◌, ◌<◌, ◌↔◌, ◌+◌, ◌++◌, ℕ, List, [], ◌∷◌, Option, Some, None, Vec, String, length}
+use Rattle.std.proofs.Common.{refl, sym, ap, ◌∙◌, take, drop, min, arith, take-append-drop}
 use Rattle.std.specs.List.{slice_get}
 use Rattle.std.specs.declared.alloc.Global.{Global}
 use Rattle.std.proofs.Math.Seq.{drop-nil}
@@ -30,3 +30,9 @@ read-moves files source n copied behind fits is =
     sym (take-append-drop n (rest_of files source))
     ∙ ap (λ (l : List ℕ). l ++ drop n (rest_of files source)) (sym front)
     ∙ ap (λ (l : List ℕ). take n (copied ++ behind) ++ l) more
+
+-- a read takes nothing exactly where nothing is left
+pub read_ends : (left : List ℕ) (n room piece : ℕ) → n ≡ min (min (length left) room) piece → 0 < room → 0 < piece
+    → (n ≡ 0) ↔ (left ≡ [])
+read_ends [] n room piece is some fits = (λ _. refl, λ _. omega arith)
+read_ends (byte ∷ left) n room piece is some fits = (λ none. absurd (omega arith), λ empty. cc)
