@@ -222,7 +222,8 @@ next-inside waiting number set now lines out line form pieces first body is soun
 next-by : (waiting : List SpectrumValue) (number : ℕ) (set : Defaults) (block : Option SpectrumValue)
     (lines : List (List ℕ)) (out : List SpectrumValue) (line : List ℕ) (form : LineForm) (pieces : List Piece)
     (rest : List (List ℕ))
-    → line_form line ≡ form → fault_behind (record { waiting = waiting; judged = number; defaults = set; block = block })
+    → line_form line ≡ form → fault_behind
+    (record { waiting = waiting; judged = number; defaults = set; block = block })
     form ≡ None
     → IsOpen rest
     → lines ≡ flat_map piece_lines pieces ++ rest → AllByRecursion IsPiece pieces

@@ -312,7 +312,8 @@ same_open at_end n m fault another line told said = cc
 same_line : (n m a b : ℕ) → n ≡ m → a ≡ b → n + 1 + a ≡ m + 1 + b
 same_line n m a b one two = cc
 
-same_kind_outside : (line twin : List ℕ) (kind other : MgfKind) → line ≡ twin → fault_outside (line_form line) ≡ Some kind
+same_kind_outside : (line twin : List ℕ) (kind other : MgfKind) → line ≡ twin
+    → fault_outside (line_form line) ≡ Some kind
     → fault_outside (line_form twin) ≡ Some other → kind ≡ other
 same_kind_outside line twin kind other same bad wrong =
     same_kind kind other (sym bad ∙ ap (λ (l : List ℕ). fault_outside (line_form l)) same ∙ wrong)

@@ -110,7 +110,8 @@ pub data Rest (at_end : Bool) (number : ℕ) (rest : List (List ℕ)) (fault : O
       → rest ≡ first ∷ (body ++ line ∷ more) → line_form first ≡ begin → IsBlockBody body
       → fault_inside (length (peaks_of 0 body)) (line_form line) ≡ Some kind
       → fault ≡ Some (record { line = number + 1 + length body; kind = kind }) → Rest at_end number rest fault
-  open_block : (first : List ℕ) (body : List (List ℕ)) → rest ≡ first ∷ body → line_form first ≡ begin → IsBlockBody body
+  open_block : (first : List ℕ) (body : List (List ℕ)) → rest ≡ first ∷ body → line_form first ≡ begin
+      → IsBlockBody body
       → fault ≡ (if at_end then Some (record { line = number; kind = OpenBlock }) else None)
       → Rest at_end number rest fault
 

@@ -36,7 +36,8 @@ returns-then-not-is_below c =
     let fits : FitsSigned w64 c.pair_bound-bound.result = search rules in
     let fits_next : FitsSigned w64 c.pair_bound.result = search rules in
     let step = ordered_step int_lt (pos 1000) values i item next c.pair_bound-bound.result c.pair_bound.result
-    c.is_below.result more here there c.pair_bound-bound.ensures c.pair_bound.ensures fits fits_next c.is_below.ensures in
+    c.is_below.result more here there c.pair_bound-bound.ensures c.pair_bound.ensures fits fits_next
+    c.is_below.ensures in
     sym (step ∙ ap (λ t. t && rises_to_whole (bounds_from values (i + 1))) c.if-not-is_below.true)
     ∙ c.loop-place.invariant ∙ ap rises_to_whole (bounds_from-start values)
 
@@ -52,7 +53,8 @@ loop-place-preserved c =
     let fits : FitsSigned w64 c.pair_bound-bound.result = search rules in
     let fits_next : FitsSigned w64 c.pair_bound.result = search rules in
     let step = ordered_step int_lt (pos 1000) values i item next c.pair_bound-bound.result c.pair_bound.result
-    c.is_below.result more here there c.pair_bound-bound.ensures c.pair_bound.ensures fits fits_next c.is_below.ensures in
+    c.is_below.result more here there c.pair_bound-bound.ensures c.pair_bound.ensures fits fits_next
+    c.is_below.ensures in
     sym (step ∙ ap (λ t. t && rises_to_whole (bounds_from values (i + 1))) c.if-not-is_below.false)
     ∙ c.loop-place.invariant
 
