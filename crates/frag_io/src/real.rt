@@ -4,7 +4,7 @@ ghost use Rattle.std.specs.Prelude.{◌≡◌, ◌≢◌, ◌≤◌, ◌<◌, �
 ghost use Rattle.std.specs.Prelude.{true, false, IfOk, IfSome, IsSome, OnOk, OnErr};
 ghost use Rattle.std.specs.IoError.{error_kind};
 ghost use Rattle.frag_io.specs.declared.desk.Slot.{Slot};
-ghost use Rattle.frag_io.specs.Slot.{SameBut, Same, Gains};
+ghost use Rattle.frag_io.specs.Slot.{IsRead, SameBut, Same, Gains};
 ghost use Rattle.frag_io.specs.Count.{raised};
 ghost use Rattle.frag_io.specs.inside.BySlot.{at};
 ghost use Rattle.frag_io.specs.inside.Faults.{faults_of};
@@ -39,6 +39,23 @@ struct Slots<F> {
     faults: Faults,
 }
 
+impl<F: Drop> Slots<F> {
+    /// Begins a read slot over an open file.
+    fn start(&mut self, slot: Slot, file: F)
+        requires { IsRead slot }
+        ensures begun { Gains slot (is_begun_in self.old) (is_begun_in self.new) }
+        ensures finished { Same (is_finished_in self.old) (is_finished_in self.new) }
+        ensures faults { self.new.faults ≡ self.old.faults }
+    {
+        match slot {
+            Slot::Spectra => self.spectra = Some(file),
+            Slot::Profile => self.profile = Some(file),
+            Slot::CertIn => self.cert_in = Some(file),
+            _ => unreachable!(),
+        }
+    }
+}
+
 /// A file that is there on every Linux system and has no bytes.
 const NO_BYTES: &str = "/dev/null";
 
@@ -54,6 +71,13 @@ fn take_descriptors<R: Files>(rt: &R) -> io::Result<Held<R::File>> {
         fs::open(rt, NO_BYTES)?,
         fs::open(rt, NO_BYTES)?,
     ))
+}
+
+/// Creates a file, or empties it, apart from the descriptors of the standard streams.
+fn create_apart<R: Files>(rt: &R, name: &str) -> io::Result<(Held<R::File>, R::File)> {
+    let held = take_descriptors(rt)?;
+    let file = fs::create(rt, name)?;
+    Ok((held, file))
 }
 
 /// Reads an open file.
@@ -151,13 +175,15 @@ impl<'a, R: Files + Print> RealDesk<'a, R> {
         ensures faults { self.new.slots.faults ≡ self.old.slots.faults }
     {
         match slot {
-            Slot::Spectra => self.slots.spectra = Some(fs::open(self.rt, name)?),
-            Slot::Profile => self.slots.profile = Some(fs::open(self.rt, name)?),
-            Slot::CertIn => self.slots.cert_in = Some(fs::open(self.rt, name)?),
             Slot::Report => self.slots.report = Outlet::Open(()),
             Slot::CertOut => {
-                self.held = Some(take_descriptors(self.rt)?);
-                self.slots.cert_out = Outlet::Open(fs::create(self.rt, name)?);
+                let (held, file) = create_apart(self.rt, name)?;
+                self.held = Some(held);
+                self.slots.cert_out = Outlet::Open(file);
+            }
+            _ => {
+                let file = fs::open(self.rt, name)?;
+                self.slots.start(slot, file);
             }
         }
         Ok(())
@@ -168,7 +194,7 @@ impl<R: Files + Print> Desk for RealDesk<'_, R> {
     ghost use Rattle.frag_io.specs.declared.desk.Slot.TheVariants.{Report};
     ghost use Rattle.frag_io.specs.Desk.{IsNamed, IsEmpty, appended, Keeps, AddsOnOk, HasCause, CountsFault, Moves};
     ghost use Rattle.frag_io.specs.Real.{state_of};
-    ghost use Rattle.frag_io.specs.Slot.{IsRead, IsWritten};
+    ghost use Rattle.frag_io.specs.Slot.{IsWritten};
     ghost use Rattle.frag_io.specs.inside.Outlets.{finished_in_is_begun};
 
     ghost state = { λ desk. state_of desk.slots };
