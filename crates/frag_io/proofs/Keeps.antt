@@ -1,5 +1,5 @@
--- For `Keeps` and what stands beside it in the clauses: what holds of one call of a desk and of those before it holds of
--- all of them.
+-- For `Keeps` and what stands beside it in the clauses: what holds of one call of a desk and of those before it holds
+-- of all of them.
 use Rattle.std.proofs.Common.{◌∙◌, arith}
 use Rattle.frag_io.specs.declared.desk.Slot.{Slot}
 use Rattle.frag_io.specs.DeskState.{DeskState}

@@ -16,6 +16,3 @@ pub use failing::{CallKind, Failing};
 pub use memory::MemoryDesk;
 pub use real::RealDesk;
 pub use whole::{ReadWhole, read_whole, write_whole};
-
-#[cfg(test)]
-mod tests;

@@ -4,7 +4,7 @@ ghost use Rattle.std.specs.Prelude.{◌≡◌, ◌≢◌, ◌≤◌, ◌<◌, �
 ghost use Rattle.std.specs.Prelude.{true, false, IfOk, IfSome, IsSome, OnOk, OnErr};
 ghost use Rattle.std.specs.IoError.{error_kind};
 ghost use Rattle.frag_io.specs.declared.desk.Slot.{Slot};
-ghost use Rattle.frag_io.specs.Slot.{SameBut, Same, Gains};
+ghost use Rattle.frag_io.specs.Slot.{IsRead, SameBut, Same, Gains};
 ghost use Rattle.frag_io.specs.Count.{raised};
 ghost use Rattle.frag_io.specs.inside.BySlot.{at};
 ghost use Rattle.frag_io.specs.inside.Faults.{faults_of};
@@ -39,6 +39,23 @@ struct Slots<F> {
     faults: Faults,
 }
 
+impl<F: Drop> Slots<F> {
+    /// Begins a read slot over an open file.
+    fn start(&mut self, slot: Slot, file: F)
+        requires { IsRead slot }
+        ensures begun { Gains slot (is_begun_in self.old) (is_begun_in self.new) }
+        ensures finished { Same (is_finished_in self.old) (is_finished_in self.new) }
+        ensures faults { self.new.faults ≡ self.old.faults }
+    {
+        match slot {
+            Slot::Spectra => self.spectra = Some(file),
+            Slot::Profile => self.profile = Some(file),
+            Slot::CertIn => self.cert_in = Some(file),
+            _ => unreachable!(),
+        }
+    }
+}
+
 /// A file that is there on every Linux system and has no bytes.
 const NO_BYTES: &str = "/dev/null";
 
@@ -46,14 +63,21 @@ const NO_BYTES: &str = "/dev/null";
 #[derive(Drop)]
 struct Held<F>(F, F, F);
 
-/// Takes as many descriptors as there are standard streams. Where one of these is closed, the system gives its descriptor
-/// to the next file that is opened, and what is meant for the stream would land in that file.
+/// Takes as many descriptors as there are standard streams. Where one of these is closed, the system gives its
+/// descriptor to the next file that is opened, and what is meant for the stream would land in that file.
 fn take_descriptors<R: Files>(rt: &R) -> io::Result<Held<R::File>> {
     Ok(Held(
         fs::open(rt, NO_BYTES)?,
         fs::open(rt, NO_BYTES)?,
         fs::open(rt, NO_BYTES)?,
     ))
+}
+
+/// Creates a file, or empties it, apart from the descriptors of the standard streams.
+fn create_apart<R: Files>(rt: &R, name: &str) -> io::Result<(Held<R::File>, R::File)> {
+    let held = take_descriptors(rt)?;
+    let file = fs::create(rt, name)?;
+    Ok((held, file))
 }
 
 /// Reads an open file.
@@ -95,8 +119,8 @@ fn end<F: Write + Drop>(outlet: &mut Outlet<F>) -> io::Result<()>
 }
 
 /// A desk over real files and the standard output. It tells no bytes. Read slots are opened only to read; the
-/// document's file is created, or emptied, as it begins, and never takes the descriptor of a standard stream; the report
-/// goes to the standard output.
+/// document's file is created, or emptied, as it begins, and never takes the descriptor of a standard stream; the
+/// report goes to the standard output.
 #[derive(Drop)]
 pub struct RealDesk<'a, R: Files + Print> {
     rt: &'a R,
@@ -151,13 +175,15 @@ impl<'a, R: Files + Print> RealDesk<'a, R> {
         ensures faults { self.new.slots.faults ≡ self.old.slots.faults }
     {
         match slot {
-            Slot::Spectra => self.slots.spectra = Some(fs::open(self.rt, name)?),
-            Slot::Profile => self.slots.profile = Some(fs::open(self.rt, name)?),
-            Slot::CertIn => self.slots.cert_in = Some(fs::open(self.rt, name)?),
             Slot::Report => self.slots.report = Outlet::Open(()),
             Slot::CertOut => {
-                self.held = Some(take_descriptors(self.rt)?);
-                self.slots.cert_out = Outlet::Open(fs::create(self.rt, name)?);
+                let (held, file) = create_apart(self.rt, name)?;
+                self.held = Some(held);
+                self.slots.cert_out = Outlet::Open(file);
+            }
+            _ => {
+                let file = fs::open(self.rt, name)?;
+                self.slots.start(slot, file);
             }
         }
         Ok(())
@@ -168,7 +194,7 @@ impl<R: Files + Print> Desk for RealDesk<'_, R> {
     ghost use Rattle.frag_io.specs.declared.desk.Slot.TheVariants.{Report};
     ghost use Rattle.frag_io.specs.Desk.{IsNamed, IsEmpty, appended, Keeps, AddsOnOk, HasCause, CountsFault, Moves};
     ghost use Rattle.frag_io.specs.Real.{state_of};
-    ghost use Rattle.frag_io.specs.Slot.{IsRead, IsWritten};
+    ghost use Rattle.frag_io.specs.Slot.{IsWritten};
     ghost use Rattle.frag_io.specs.inside.Outlets.{finished_in_is_begun};
 
     ghost state = { λ desk. state_of desk.slots };
@@ -284,31 +310,5 @@ impl<R: Files + Print> Desk for RealDesk<'_, R> {
             Ok(()) => Ok(()),
             Err(_) => Err(self.slots.faults.fail(slot)),
         }
-    }
-}
-
-#[cfg(test)]
-mod tests {
-    use super::*;
-    use crate::{ReadWhole, read_whole};
-    use std::test::Fail;
-
-    fn text_of<D: Desk>(alloc: Global, desk: &mut D, name: &str) -> Result<Vec<u8>, ReadWhole>
-        requires { (slot : Slot) → (D.state desk.old).begun slot ≡ false }
-    {
-        desk.begin(alloc, Slot::Spectra, name)?;
-        read_whole(alloc, desk, Slot::Spectra, 100)
-    }
-
-    #[test]
-    fn a_missing_file_and_a_folder_are_faults(rt: HostRuntime) -> Result<(), Fail> {
-        for name in ["missing.txt", "."] {
-            let mut desk = RealDesk::new(&rt);
-            let text = text_of(rt.alloc(), &mut desk, name);
-            assert!(rt; matches!(text, Err(ReadWhole::Failed)), "{name}");
-            assert_eq!(rt; desk.slots.faults.at(Slot::Spectra), 1, "{name}");
-            assert_eq!(rt; desk.slots.faults.at(Slot::Profile), 0, "{name}");
-        }
-        Ok(())
     }
 }

@@ -1,5 +1,5 @@
 //! How far a slot of a desk in memory has come, and which file it is read from.
-ghost use Rattle.std.specs.Prelude.{◌≡◌, Some, None, MatchOption, IsSome, IfSome, position, true, false};
+ghost use Rattle.std.specs.Prelude.{◌≡◌, Some, None, MatchOption, IsSome, IfSome, position, true, false, drop};
 ghost use Rattle.frag_io.specs.Slot.{is_read, IsRead, IsWritten};
 ghost use Rattle.frag_io.specs.Files.{is_named, bytes_under};
 ghost use Rattle.frag_io.specs.inside.Stage.{is_begun, is_finished, rest_of, left_at};
@@ -47,8 +47,19 @@ pub(crate) fn rest(files: &[(String, Vec<u8>)], source: Source) -> &[u8]
     ensures { result.now ≡ rest_of files.now source }
 {
     match files.get(source.place) {
-        Some(file) if source.done <= file.1.len() => &file.1[source.done..],
-        _ => &[],
+        Some(file) => behind(&file.1, source.done),
+        None => &[],
+    }
+}
+
+/// What stands behind so many bytes.
+fn behind(bytes: &[u8], count: usize) -> &[u8]
+    ensures { result.now ≡ drop count bytes.now }
+{
+    if count <= bytes.len() {
+        &bytes[count..]
+    } else {
+        &[]
     }
 }
 

@@ -1,11 +1,13 @@
 -- For `trimmed`: what a trimmed list begins with.
-use Rattle.std.proofs.Common.{◌≡◌, ◌∙◌, inl, inr, ℕ, Bool, false, List, [], ◌∷◌, ◌++◌, reverse, get_or, length, ◌≤◌, refl, sym, ap, arith}
+use Rattle.std.proofs.Common.{◌≡◌, ◌∙◌, inl, inr, ℕ, Bool, false, List, [], ◌∷◌, ◌++◌, reverse, get_or, length, ◌≤◌}
+use Rattle.std.proofs.Common.{refl, sym, ap, arith}
 use Rattle.std.proofs.lemmas.Bool.{cases_Bool}
 use Rattle.std.proofs.lemmas.Bool.Decides.{nat_tests}
 use Rattle.std.proofs.lemmas.List.{reverse-append, reverse-reverse}
 use Rattle.mgf_reader.specs.Bytes.{trimmed, trimmed_front, is_edge, is_blank}
 
-pub trimmed_front-head : (p : ℕ → Bool) (xs : List ℕ) (x : ℕ) (rest : List ℕ) → trimmed_front p xs ≡ x ∷ rest → p x ≡ false
+pub trimmed_front-head : (p : ℕ → Bool) (xs : List ℕ) (x : ℕ) (rest : List ℕ) → trimmed_front p xs ≡ x ∷ rest
+    → p x ≡ false
 trimmed_front-head p [] x rest is = cc
 trimmed_front-head p (y ∷ ys) x rest is = elim (cases_Bool (p y)) [
   | inl drops ↦ trimmed_front-head p ys x rest (simp drops at is)
@@ -22,10 +24,14 @@ dropped p (x ∷ xs) = elim (cases_Bool (p x)) [
 
 -- a list trimmed at its end is a first part
 kept : (p : ℕ → Bool) (xs : List ℕ) → (gone : List ℕ) × (xs ≡ reverse (trimmed_front p (reverse xs)) ++ gone)
-kept p xs = let before = dropped p (reverse xs) in
-    (reverse before.0, sym (reverse-reverse xs) ∙ ap reverse before.1 ∙ reverse-append before.0 (trimmed_front p (reverse xs)))
+kept p xs = let before = dropped p (reverse xs) in (
+  reverse before.0,
+  sym (reverse-reverse xs) ∙ ap reverse before.1
+      ∙ reverse-append before.0 (trimmed_front p (reverse xs)),
+)
 
-head_of_part : (p : ℕ → Bool) (xs part gone : List ℕ) → p 0 ≡ false → trimmed_front p xs ≡ part ++ gone → p (get_or part 0 0) ≡ false
+head_of_part : (p : ℕ → Bool) (xs part gone : List ℕ) → p 0 ≡ false → trimmed_front p xs ≡ part ++ gone
+    → p (get_or part 0 0) ≡ false
 head_of_part p xs [] gone zero is = zero
 head_of_part p xs (x ∷ rest) gone zero is = trimmed_front-head p xs x (rest ++ gone) is
 

@@ -1,5 +1,6 @@
 -- Bytes of a line: which are dropped, and which part one field from the next.
-use Rattle.std.specs.Prelude.{ℕ, List, [], ◌∷◌, Bool, ◌==◌, ◌||◌, ◌&&◌, nat_le, if◌then◌else◌, reverse, filter, length, nat_lt}
+use Rattle.std.specs.Prelude.{ℕ, List, [], ◌∷◌, Bool, ◌==◌, ◌||◌, ◌&&◌, nat_le, if◌then◌else◌, reverse, filter, length}
+use Rattle.std.specs.Prelude.{nat_lt}
 use Rattle.std.specs.Char.{is_ascii_digit}
 
 -- a space or a tab

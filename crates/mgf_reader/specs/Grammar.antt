@@ -1,17 +1,19 @@
 -- The grammar of a text as a relation on its whole list of lines: lines outside and blocks in any order, and then a
--- rest. The format is the Mascot generic format as Matrix Science describes it; the leniencies and the refusals are this
--- project's own.
-use Rattle.std.specs.Prelude.{◌≡◌, ◌+◌, ◌≤◌, ◌++◌, ℕ, List, [], ◌∷◌, Bool, true, false, nat_le, if◌then◌else◌, Option, Some, None, is_none, length}
+-- rest. The format is the Mascot generic format as Matrix Science describes it; the leniencies and the refusals are
+-- this project's own.
+use Rattle.std.specs.Prelude.{◌≡◌, ◌+◌, ◌≤◌, ◌++◌, ℕ, List, [], ◌∷◌, Bool, true, false, nat_le, if◌then◌else◌, Option}
+use Rattle.std.specs.Prelude.{Some, None, is_none, length}
 use Rattle.std.specs.Option.{option_to_list}
 use Rattle.std.specs.List.{AllByRecursion, flat_map}
 use Rattle.mgf_reader.specs.declared.fault.MgfKind.{MgfKind}
-use Rattle.mgf_reader.specs.declared.fault.MgfKind.TheVariants.{NestedBegin, StrayEnd, OpenBlock, PeakOutside, BadPeak, NoForm, LineTooLong, TooManyPeaks}
+use Rattle.mgf_reader.specs.declared.fault.MgfKind.TheVariants.{NestedBegin, StrayEnd, OpenBlock, PeakOutside, BadPeak}
+use Rattle.mgf_reader.specs.declared.fault.MgfKind.TheVariants.{NoForm, LineTooLong, TooManyPeaks}
 use Rattle.mgf_reader.specs.declared.fault.MgfFault.{MgfFault}
 use Rattle.mgf_reader.specs.Spectrum.{PeakValue, SpectrumValue}
-use Rattle.mgf_reader.specs.LineForm.{LineForm, too_long, begin, end, parameter, peak, no_form, form_of}
+use Rattle.mgf_reader.specs.LineForm.{LineForm, too_long, begin, end, parameter, peak, no_form, line_form}
 use Rattle.mgf_reader.specs.Parameter.{parameter_fault, title_of, precursor_of, charge_list_of}
 use Rattle.mgf_reader.specs.PeakLine.{peak_of}
-use Rattle.mgf_reader.specs.Text.{lines_of, judged_lines}
+use Rattle.mgf_reader.specs.Text.{text_lines, judged_lines}
 
 -- how many peaks a block may have
 abbrev pub greatest_peaks_of_a_block : ℕ
@@ -46,17 +48,17 @@ peak_in number form = []
 -- the peaks of a block's lines, of which the first has this number
 abbrev pub peaks_of : ℕ → List (List ℕ) → List PeakValue
 peaks_of number [] = []
-peaks_of number (line ∷ lines) = peak_in number (form_of line) ++ peaks_of (number + 1) lines
+peaks_of number (line ∷ lines) = peak_in number (line_form line) ++ peaks_of (number + 1) lines
 
 -- a line that may stand outside a block and opens none
 pub record IsOutside (line : List ℕ) : Type 0 where
-  pub right : fault_outside (form_of line) ≡ None
-  pub no_begin : form_of line ≡ begin → ⊥
+  pub right : fault_outside (line_form line) ≡ None
+  pub no_begin : line_form line ≡ begin → ⊥
 
 -- a line that may stand in a block and does not close it, whatever the number of peaks
 pub record IsInside (line : List ℕ) : Type 0 where
-  pub right : fault_inside 0 (form_of line) ≡ None
-  pub no_end : form_of line ≡ end → ⊥
+  pub right : fault_inside 0 (line_form line) ≡ None
+  pub no_end : line_form line ≡ end → ⊥
 
 -- the lines of a block behind its begin line: each may stand there, and there are not too many peaks
 pub record IsBlockBody (body : List (List ℕ)) : Type 0 where
@@ -76,7 +78,7 @@ piece_lines (block first body last) = first ∷ (body ++ last ∷ [])
 -- a piece that is right
 abbrev pub IsPiece : Piece → Type 0
 IsPiece (outside line) = IsOutside line
-IsPiece (block first body last) = (form_of first ≡ begin) × IsBlockBody body × (form_of last ≡ end)
+IsPiece (block first body last) = (line_form first ≡ begin) × IsBlockBody body × (line_form last ≡ end)
 
 -- The spectrum of a block, of which the begin line has this number. A key's value is that of the block's own last line
 -- of the key, or else of the last line outside before it.
@@ -102,13 +104,14 @@ spectra_of before number (block first body last ∷ pieces) =
 pub data Rest (at_end : Bool) (number : ℕ) (rest : List (List ℕ)) (fault : Option MgfFault) : Type 0 where
   nothing : rest ≡ [] → fault ≡ None → Rest at_end number rest fault
   stray : (line : List ℕ) (more : List (List ℕ)) (kind : MgfKind) → rest ≡ line ∷ more
-      → fault_outside (form_of line) ≡ Some kind
+      → fault_outside (line_form line) ≡ Some kind
       → fault ≡ Some (record { line = number; kind = kind }) → Rest at_end number rest fault
   refused : (first : List ℕ) (body : List (List ℕ)) (line : List ℕ) (more : List (List ℕ)) (kind : MgfKind)
-      → rest ≡ first ∷ (body ++ line ∷ more) → form_of first ≡ begin → IsBlockBody body
-      → fault_inside (length (peaks_of 0 body)) (form_of line) ≡ Some kind
+      → rest ≡ first ∷ (body ++ line ∷ more) → line_form first ≡ begin → IsBlockBody body
+      → fault_inside (length (peaks_of 0 body)) (line_form line) ≡ Some kind
       → fault ≡ Some (record { line = number + 1 + length body; kind = kind }) → Rest at_end number rest fault
-  open_block : (first : List ℕ) (body : List (List ℕ)) → rest ≡ first ∷ body → form_of first ≡ begin → IsBlockBody body
+  open_block : (first : List ℕ) (body : List (List ℕ)) → rest ≡ first ∷ body → line_form first ≡ begin
+      → IsBlockBody body
       → fault ≡ (if at_end then Some (record { line = number; kind = OpenBlock }) else None)
       → Rest at_end number rest fault
 
@@ -124,7 +127,7 @@ pub record ReadsLines (at_end : Bool) (lines : List (List ℕ)) (spectra : List 
 
 -- the reading of a text
 abbrev pub Reads : List ℕ → List SpectrumValue → Option MgfFault → Type 0
-Reads text spectra fault = ReadsLines true (lines_of text) spectra fault
+Reads text spectra fault = ReadsLines true (text_lines text) spectra fault
 
 -- the reading of a text that may still go on
 abbrev pub SoFar : List ℕ → List SpectrumValue → Option MgfFault → Type 0

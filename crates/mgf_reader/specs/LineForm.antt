@@ -2,7 +2,8 @@
 use Rattle.std.specs.Prelude.{ℕ, List, [], ◌∷◌, Bool, false, ◌&&◌, if◌then◌else◌, length, nat_lt, codes}
 use Rattle.std.specs.List.{before_first, after_first, list_any}
 use Rattle.std.specs.Str.{str_eq_ignore_ascii_case}
-use Rattle.mgf_reader.specs.Bytes.{is_blank, is_edge, is_name_byte, is_comment_mark, is_peak_start, is_equals, trimmed, fields_of}
+use Rattle.mgf_reader.specs.Bytes.{is_blank, is_edge, is_name_byte, is_comment_mark, is_peak_start, is_equals, trimmed}
+use Rattle.mgf_reader.specs.Bytes.{fields_of}
 use Rattle.mgf_reader.specs.Text.{greatest_line}
 
 -- what a line is, with what a parameter line and a peak line hold
@@ -41,5 +42,5 @@ form_within (first ∷ rest) =
     else no_form
 
 -- the form of a line without its line feed
-abbrev pub form_of : List ℕ → LineForm
-form_of line = if nat_lt greatest_line (length line) then too_long else form_within (trimmed is_edge line)
+abbrev pub line_form : List ℕ → LineForm
+line_form line = if nat_lt greatest_line (length line) then too_long else form_within (trimmed is_edge line)

@@ -1,5 +1,6 @@
 -- The keys that count, and what their values say.
-use Rattle.std.specs.Prelude.{ℕ, List, [], ◌∷◌, Bool, true, ◌==◌, ◌&&◌, not, nat_lt, nat_le, if◌then◌else◌, Option, Some, None, filter, length, reverse, unwrap_or, codes, is_none}
+use Rattle.std.specs.Prelude.{ℕ, List, [], ◌∷◌, Bool, true, ◌==◌, ◌&&◌, not, nat_lt, nat_le, if◌then◌else◌, Option}
+use Rattle.std.specs.Prelude.{Some, None, filter, length, reverse, unwrap_or, codes, is_none}
 use Rattle.std.specs.Option.{option_and_then}
 use Rattle.std.specs.Str.{str_eq_ignore_ascii_case}
 use Rattle.std.specs.Str.Parse.{digits_value}
@@ -12,7 +13,7 @@ use Rattle.mgf_reader.specs.declared.fault.MgfKind.{MgfKind}
 use Rattle.mgf_reader.specs.declared.fault.MgfKind.TheVariants.{BadPrecursor, BadCharge}
 use Rattle.mgf_reader.specs.Spectrum.{mz_scale}
 use Rattle.mgf_reader.specs.Bytes.{is_gap, fields_by, fields_of}
-use Rattle.mgf_reader.specs.LineForm.{LineForm, parameter, form_of}
+use Rattle.mgf_reader.specs.LineForm.{LineForm, parameter, line_form}
 
 -- the keys that count; every other key is ignored
 pub data Key : Type 0 where
@@ -99,7 +100,7 @@ last_value key [] = None
 last_value key (line ∷ lines) = or_this (last_value key lines) where
   or_this : Option (List ℕ) → Option (List ℕ)
   or_this (Some value) = Some value
-  or_this None = value_in key (form_of line)
+  or_this None = value_in key (line_form line)
 
 -- the title that some lines give
 abbrev pub title_of : List (List ℕ) → List ℕ

@@ -1,5 +1,6 @@
 -- What a reader holds, and the text that it stands for.
-use Rattle.std.specs.Prelude.{◌≡◌, ◌+◌, ◌++◌, ℕ, List, [], ◌∷◌, Bool, false, Option, Some, None, length, Result, Ok, Err}
+use Rattle.std.specs.Prelude.{◌≡◌, ◌+◌, ◌++◌, ℕ, List, [], ◌∷◌, Bool, false, Option, Some, None, length, Result, Ok}
+use Rattle.std.specs.Prelude.{Err}
 use Rattle.std.specs.Option.{option_map}
 use Rattle.std.specs.List.{AllByRecursion, flat_map}
 use Rattle.mgf_reader.specs.declared.fault.FeedFault.{FeedFault}
@@ -26,9 +27,9 @@ abbrev pub greatest_fed : ℕ
 greatest_fed = 67108865
 
 -- What a reader holds: how many bytes were fed, whether an end answered Ok, the spectra that wait, why it takes nothing
--- in any more, the bytes since the last line feed, how many lines were judged, the defaults, and the block that is open,
--- as a spectrum so far. The unfinished line is kept as it was fed, a byte order mark at the start included, which is left
--- out when the line is judged: so a reader needs no further sign of the mark.
+-- in any more, the bytes since the last line feed, how many lines were judged, the defaults, and the block that is
+-- open, as a spectrum so far. The unfinished line is kept as it was fed, a byte order mark at the start included, which
+-- is left out when the line is judged: so a reader needs no further sign of the mark.
 pub record ReaderValue : Type 0 where
   pub fed : ℕ
   pub ended : Bool

@@ -34,8 +34,8 @@ line_if_any [] = []
 line_if_any (byte ∷ bytes) = (byte ∷ bytes) ∷ []
 
 -- all lines of a text: what follows the last line feed is one where it is not empty
-abbrev pub lines_of : List ℕ → List (List ℕ)
-lines_of text = ended_lines (without_mark text) ++ line_if_any (unfinished_line (without_mark text))
+abbrev pub text_lines : List ℕ → List (List ℕ)
+text_lines text = ended_lines (without_mark text) ++ line_if_any (unfinished_line (without_mark text))
 
 -- The lines that are judged while a text may still go on: those that are ended, and an unfinished one once it is too
 -- long.

@@ -2,7 +2,7 @@
 ghost use Rattle.std.specs.Prelude.{◌≡◌, ◌+◌, ◌++◌, ◌<◌, ◌≤◌, ◌^◌, [], ◌∷◌, None, length, OnOk, MatchOption};
 ghost use Rattle.mgf_reader.specs.inside.Judging.{Judges, line_at, nothing_judged};
 ghost use Rattle.mgf_reader.specs.Stands.{IsFirstPart};
-ghost use Rattle.mgf_reader.specs.LineForm.{form_of};
+ghost use Rattle.mgf_reader.specs.LineForm.{line_form};
 ghost use Rattle.mgf_reader.specs.inside.Cutting.{TakesIn, Ends, HasNoLineFeed};
 
 use crate::fault::FeedFault;
@@ -124,7 +124,7 @@ impl Cutter {
 fn judge_line(judge: &mut Judge, bytes: &[u8]) -> Result<(), FeedFault>
     requires { judge.old.judged + 1 < 2 ^ 32 }
     ensures counted { judge.new.judged ≡ judge.old.judged + 1 }
-    ensures judges { Judges judge.old (form_of (line_at judge.old.judged bytes.now)) result judge.new }
+    ensures judges { Judges judge.old (line_form (line_at judge.old.judged bytes.now)) result judge.new }
 {
     let line = line_at(judge.judged(), bytes);
     judge.judge(line)

@@ -1,9 +1,10 @@
 //! Judges lines one after another, and keeps what they leave.
 ghost use Rattle.std.specs.Prelude.{◌≡◌, ◌+◌, ◌<◌, ◌^◌, [], ◌∷◌, None, Some, OnOk, IfErr, IfSome, MatchOption};
-ghost use Rattle.mgf_reader.specs.LineForm.{form_of};
+ghost use Rattle.mgf_reader.specs.LineForm.{line_form};
 ghost use Rattle.mgf_reader.specs.inside.Line.{form_of_line};
 ghost use Rattle.mgf_reader.specs.Grammar.{fault_outside};
-ghost use Rattle.mgf_reader.specs.inside.Judging.{Judges, fault_behind, left_behind, left_outside, kind_in, end_of, nothing_judged};
+ghost use Rattle.mgf_reader.specs.inside.Judging.{Judges, fault_behind, left_behind, left_outside, kind_in, end_of};
+ghost use Rattle.mgf_reader.specs.inside.Judging.{nothing_judged};
 
 use crate::block::{Block, LineFault, SpectrumSettings};
 use crate::fault::{FeedFault, MgfFault, MgfKind};
@@ -61,7 +62,7 @@ impl Judge {
     pub fn judge(&mut self, bytes: &[u8]) -> Result<(), FeedFault>
         requires { self.old.judged + 1 < 2 ^ 32 }
         ensures counted { self.new.judged ≡ self.old.judged + 1 }
-        ensures judges { Judges self.old (form_of bytes.now) result self.new }
+        ensures judges { Judges self.old (line_form bytes.now) result self.new }
     {
         self.judged += 1;
         match self.take(line_of(bytes)) {

@@ -7,8 +7,8 @@ ghost use Rattle.mgf_reader.specs.Fault.{kind_number, kind_of_number, kind_of_te
 ghost use Rattle.mgf_reader.specs.declared.fault.MgfFault.{MgfFault};
 ghost use Rattle.mgf_reader.specs.declared.fault.MgfKind.{MgfKind};
 
-/// A text is read in one way only: two readings of it have the same spectra and the same fault, whether it is at its end
-/// or may still go on.
+/// A text is read in one way only: two readings of it have the same spectra and the same fault, whether it is at its
+/// end or may still go on.
 pub fn a_text_is_read_one_way()
     ensures whole { (text : List ℕ) (spectra other : List SpectrumValue) (fault another : Option MgfFault)
         → Reads text spectra fault → Reads text other another → (spectra ≡ other) × (fault ≡ another) }
@@ -16,8 +16,8 @@ pub fn a_text_is_read_one_way()
         → SoFar text spectra fault → SoFar text other another → (spectra ≡ other) × (fault ≡ another) }
 {}
 
-/// A text keeps what it has, however it goes on: its spectra come first in every longer text, and a line that refused it
-/// refuses that too.
+/// A text keeps what it has, however it goes on: its spectra come first in every longer text, and a line that refused
+/// it refuses that too.
 pub fn a_longer_text_keeps_its_spectra()
     ensures so_far { (text more : List ℕ) (spectra : List SpectrumValue) (fault : Option MgfFault)
         → SoFar text spectra fault → Broken (SoFar (text ++ more)) spectra }

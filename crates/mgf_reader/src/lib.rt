@@ -11,8 +11,6 @@ mod line;
 mod reader;
 mod setting;
 mod spectrum;
-#[cfg(test)]
-mod tests;
 
 pub use fault::{FeedFault, MgfFault, MgfKind};
 pub use laws::{

@@ -1,7 +1,7 @@
 //! The form of a line.
 ghost use Rattle.std.specs.Prelude.{◌≡◌, IsTrue, false, slice_index};
 ghost use Rattle.mgf_reader.specs.Bytes.{is_blank, is_comment_mark, is_name_byte, is_peak_start};
-ghost use Rattle.mgf_reader.specs.LineForm.{form_of, form_within};
+ghost use Rattle.mgf_reader.specs.LineForm.{line_form, form_within};
 ghost use Rattle.mgf_reader.specs.inside.Line.{form_of_line};
 
 use crate::bytes::{ByteClass, are_words, first_place, trim};
@@ -34,7 +34,7 @@ pub const GREATEST_LINE: usize = 65_536;
 
 /// The form of a line, given without its line feed.
 pub fn line_of(bytes: &[u8]) -> Line<'_>
-    ensures { form_of_line result ≡ form_of bytes.now }
+    ensures { form_of_line result ≡ line_form bytes.now }
 {
     if bytes.len() > GREATEST_LINE {
         return Line::TooLong;

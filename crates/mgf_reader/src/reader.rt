@@ -1,6 +1,7 @@
 //! A reader of a text that comes in pieces of any size. It keeps one unfinished line, one open block, and the spectra
 //! that wait.
-ghost use Rattle.std.specs.Prelude.{◌≡◌, ◌≢◌, ◌≤◌, ◌+◌, ◌-◌, ◌++◌, [], ◌∷◌, List, ℕ, false, true, None, Some, Ok, Err, length, IfOk, OnErr, OnOk, MatchOption};
+ghost use Rattle.std.specs.Prelude.{◌≡◌, ◌≢◌, ◌≤◌, ◌+◌, ◌-◌, ◌++◌, [], ◌∷◌, List, ℕ, false, true, None, Some, Ok, Err};
+ghost use Rattle.std.specs.Prelude.{length, IfOk, OnErr, OnOk, MatchOption};
 ghost use Rattle.std.specs.Option.{option_to_list};
 ghost use Rattle.mgf_reader.specs.Spectrum.{SpectrumValue};
 ghost use Rattle.mgf_reader.specs.declared.fault.FeedFault.{FeedFault};

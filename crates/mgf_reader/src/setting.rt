@@ -1,7 +1,8 @@
 //! What a parameter line sets, and what a peak line says.
 ghost use Rattle.std.specs.Prelude.{◌≡◌, Some, None, IfOk, IfErr, IfSome, reverse};
 ghost use Rattle.mgf_reader.specs.Bytes.{fields_of};
-ghost use Rattle.mgf_reader.specs.Parameter.{charge_from_end, charge_of, charges_of, parameter_fault, precursor_units, sign_of, signed};
+ghost use Rattle.mgf_reader.specs.Parameter.{charge_from_end, charge_of, charges_of, parameter_fault};
+ghost use Rattle.mgf_reader.specs.Parameter.{precursor_units, sign_of, signed};
 ghost use Rattle.mgf_reader.specs.PeakLine.{intensity_of, peak_of};
 ghost use Rattle.mgf_reader.specs.declared.fault.MgfKind.TheVariants.{BadCharge};
 ghost use Rattle.mgf_reader.specs.inside.Line.{Says, kind_of};

@@ -16,7 +16,8 @@ use Rattle.profile.specs.declared.fault.ProfileFault.TheVariants.{NotToml}
 use Rattle.profile.specs.declared.fault.ProfileError.{ProfileError}
 use Rattle.profile.specs.declared.fault.ProfileError.TheVariants.{Refused, OutOfMemory}
 
-pub table_of-utf8 : (bytes : List ℕ) (entries : Members) → IsUtf8 bytes → parse_document bytes ≡ Some entries → table_of bytes ≡ Some entries
+pub table_of-utf8 : (bytes : List ℕ) (entries : Members) → IsUtf8 bytes → parse_document bytes ≡ Some entries
+    → table_of bytes ≡ Some entries
 table_of-utf8 bytes entries text is = rw (is_utf8-from_IsUtf8 bytes text) is
 
 pub table_of-none : (bytes : List ℕ) → (IsUtf8 bytes → parse_document bytes ≡ None) → table_of bytes ≡ None
@@ -35,8 +36,12 @@ told OutOfMemory fault found is same = cc
 pub profile_of-not_toml : (bytes : List ℕ) → table_of bytes ≡ None → profile_of bytes ≡ Err NotToml
 profile_of-not_toml bytes is = ap profile_in is
 
-pub profile_of-refused : (bytes : List ℕ) (entries : Members) (fault : ProfileFault) → table_of bytes ≡ Some entries → refusal_of (places_of entries) ≡ Some fault → profile_of bytes ≡ Err fault
-profile_of-refused bytes entries fault is refused = ap profile_in is ∙ ap (λ (found : Option ProfileFault). unless_refused found (profile_value_of entries)) refused
+pub profile_of-refused : (bytes : List ℕ) (entries : Members) (fault : ProfileFault) → table_of bytes ≡ Some entries
+    → refusal_of (places_of entries) ≡ Some fault → profile_of bytes ≡ Err fault
+profile_of-refused bytes entries fault is refused = ap profile_in is
+    ∙ ap (λ (found : Option ProfileFault). unless_refused found (profile_value_of entries)) refused
 
-pub profile_of-read : (bytes : List ℕ) (entries : Members) → table_of bytes ≡ Some entries → refusal_of (places_of entries) ≡ None → profile_of bytes ≡ Ok (profile_value_of entries)
-profile_of-read bytes entries is fine = ap profile_in is ∙ ap (λ (found : Option ProfileFault). unless_refused found (profile_value_of entries)) fine
+pub profile_of-read : (bytes : List ℕ) (entries : Members) → table_of bytes ≡ Some entries
+    → refusal_of (places_of entries) ≡ None → profile_of bytes ≡ Ok (profile_value_of entries)
+profile_of-read bytes entries is fine = ap profile_in is
+    ∙ ap (λ (found : Option ProfileFault). unless_refused found (profile_value_of entries)) fine

@@ -1,5 +1,5 @@
 -- Worked examples, computed from the bytes.
-use Rattle.std.proofs.Common.{◌≡◌, pos, negsuc, codes, [], ◌∷◌, ◌++◌, replicate, Ok, Err, refl}
+use Rattle.std.proofs.Common.{◌≡◌, ℕ, List, pos, negsuc, codes, [], ◌∷◌, ◌++◌, replicate, Ok, Err, refl}
 use Rattle.std.specs.Fmt.{digits}
 use Rattle.std.specs.Str.{is_utf8, chars}
 use Rattle.element_table.specs.FormulaReading.{formula_of}
@@ -39,12 +39,18 @@ walk_order : profile_of (codes "pmm = 1\nelements = {zz = 1}") ≡ Err (UnknownK
 unfolding toml_on_literals is_utf8 chars element_numbers
 walk_order = refl
 
-deep_name : profile_of (codes "rules = [{}, {coefficients = {C = 1001}}]") ≡ Err (OverLimit (codes "rules.1.coefficients.C") (pos 1001))
+deep_name : profile_of (codes "rules = [{}, {coefficients = {C = 1001}}]")
+    ≡ Err (OverLimit (codes "rules.1.coefficients.C") (pos 1001))
 unfolding toml_on_literals is_utf8 chars digits
 deep_name = refl
 
 -- limits that are not named are 0; a rule for candidates is kept apart
-values : profile_of (codes "ppm = 5\nelements = {Si = 3}\nrules = [{constant = 1, apply = \"neutral\"}, {coefficients = {H = -2}, parity = \"even\"}]") ≡ Ok (record {
+abbrev values_text : List ℕ
+values_text =
+    codes "ppm = 5\nelements = {Si = 3}\n"
+    ++ codes "rules = [{constant = 1, apply = \"neutral\"}, {coefficients = {H = -2}, parity = \"even\"}]"
+
+values : profile_of values_text ≡ Ok (record {
   ppm = 5;
   abs = 10000;
   peaks = 12;
@@ -62,6 +68,7 @@ doubled : profile_of (codes "scores.named = {H2O = 1, OH2 = 1}") ≡ Err (BadVal
 unfolding toml_on_literals is_utf8 chars formula_of
 doubled = refl
 
-pair_out_of_range : profile_of (codes "scores.intensity = [[1001, 1], [0, 2001]]") ≡ Err (OverLimit (codes "scores.intensity.0.0") (pos 1001))
+pair_out_of_range : profile_of (codes "scores.intensity = [[1001, 1], [0, 2001]]")
+    ≡ Err (OverLimit (codes "scores.intensity.0.0") (pos 1001))
 unfolding toml_on_literals is_utf8 chars digits
 pair_out_of_range = refl

@@ -17,10 +17,12 @@ option_or_assoc : {A : Type 0} (a b c : Option A) → option_or (option_or a b) 
 option_or_assoc None b c = refl
 option_or_assoc (Some x) b c = refl
 
-pub first_fault-append : (fault_at : Place → Option ProfileFault) (some more : List Place) → first_fault fault_at (some ++ more) ≡ option_or (first_fault fault_at some) (first_fault fault_at more)
+pub first_fault-append : (fault_at : Place → Option ProfileFault) (some more : List Place)
+    → first_fault fault_at (some ++ more) ≡ option_or (first_fault fault_at some) (first_fault fault_at more)
 first_fault-append fault_at [] more = refl
 first_fault-append fault_at (place ∷ some) more =
-    ap (option_or (fault_at place)) (first_fault-append fault_at some more) ∙ sym (option_or_assoc (fault_at place) (first_fault fault_at some) (first_fault fault_at more))
+    ap (option_or (fault_at place)) (first_fault-append fault_at some more)
+    ∙ sym (option_or_assoc (fault_at place) (first_fault fault_at some) (first_fault fault_at more))
 
 -- no search finds a fault
 pub record NoFault (places : List Place) : Type 0 where
@@ -38,7 +40,8 @@ pub refusal_from_NoFault : (places : List Place) → NoFault places → refusal_
 refusal_from_NoFault places fine = rw (fine.unknown, fine.bad) fine.over
 
 -- of two parts
-pub parts_fine : (some more : List Place) → refusal_of (some ++ more) ≡ None → (refusal_of some ≡ None) × (refusal_of more ≡ None)
+pub parts_fine : (some more : List Place) → refusal_of (some ++ more) ≡ None
+    → (refusal_of some ≡ None) × (refusal_of more ≡ None)
 parts_fine some more none =
     let fine = NoFault-from_refusal (some ++ more) none in
     let unknown = neither _ _ (sym (first_fault-append unknown_at some more) ∙ fine.unknown) in
@@ -49,7 +52,8 @@ parts_fine some more none =
     )
 
 -- of the first place and the others
-pub first_fine : (place : Place) (places : List Place) → refusal_of (place ∷ places) ≡ None → (bad_at place ≡ None) × (over_at place ≡ None) × (refusal_of places ≡ None)
+pub first_fine : (place : Place) (places : List Place) → refusal_of (place ∷ places) ≡ None
+    → (bad_at place ≡ None) × (over_at place ≡ None) × (refusal_of places ≡ None)
 first_fine place places none =
     let fine = NoFault-from_refusal (place ∷ places) none in
     let unknown = neither _ _ fine.unknown in

@@ -1,5 +1,6 @@
 -- The limits of a table of which nothing is refused.
-use Rattle.std.proofs.Common.{◌≡◌, ◌∙◌, ◌≤◌, ◌≤ℤ◌, Some, None, if◌then◌else◌, ℕ, ℤ, pos, negsuc, Bool, true, false, List, [], ◌∷◌, length, get_or, map, refl, ap, sym, arith, nat_lt}
+use Rattle.std.proofs.Common.{◌≡◌, ◌∙◌, ◌≤◌, ◌≤ℤ◌, Some, None, if◌then◌else◌, ℕ, ℤ, pos, negsuc, Bool, true, false}
+use Rattle.std.proofs.Common.{List, [], ◌∷◌, length, get_or, map, refl, ap, sym, arith, nat_lt}
 use Rattle.std.specs.Prelude.{int_lt}
 use Rattle.std.specs.List.{list_any}
 use Rattle.std.proofs.lemmas.Int.{ints}
@@ -20,11 +21,15 @@ use Rattle.profile.proofs.ElementRange.{element_in_range}
 pub length-limits_of : (entries : Members) → length (limits_of entries) ≡ 16
 length-limits_of entries = length-map (element_numbers entries) as_count ∙ length-element_numbers entries
 
-pub get_or-limits_of : (entries : Members) (place : ℕ) → get_or (limits_of entries) place 0 ≡ as_count (get_or (element_numbers entries) place (pos 0))
+pub get_or-limits_of : (entries : Members) (place : ℕ)
+    → get_or (limits_of entries) place 0 ≡ as_count (get_or (element_numbers entries) place (pos 0))
 get_or-limits_of entries place = get_or-map as_count (element_numbers entries) place (pos 0)
 
-pub limit_in_range : (entries : Members) (place : ℕ) → IsFine limits entries → (pos 0 ≤ℤ get_or (element_numbers entries) place (pos 0)) × (get_or (element_numbers entries) place (pos 0) ≤ℤ pos 1999)
-limit_in_range entries place fine = element_in_range limits entries (pos 0) (pos 1999) place fine (λ known key. refl) (omega arith) (omega arith)
+pub limit_in_range : (entries : Members) (place : ℕ) → IsFine limits entries
+    → (pos 0 ≤ℤ get_or (element_numbers entries) place (pos 0))
+    × (get_or (element_numbers entries) place (pos 0) ≤ℤ pos 1999)
+limit_in_range entries place fine = element_in_range limits entries (pos 0) (pos 1999) place fine (λ known key. refl)
+    (omega arith) (omega arith)
 
 -- an integer that is not negative is its count
 pub pos-as_count : (z : ℤ) → pos 0 ≤ℤ z → pos (as_count z) ≡ z
@@ -40,7 +45,8 @@ limit_capped entries place fine =
     rw (get_or-limits_of entries place) (as_count-le (get_or (element_numbers entries) place (pos 0)) 1999 low high)
 
 limit_past : (entries : Members) (place : ℕ) → 11 ≤ place → get_or (limits_of entries) place 0 ≡ 0
-limit_past entries place past = get_or-limits_of entries place ∙ ap as_count (get_or-element_numbers_past entries place past)
+limit_past entries place past = get_or-limits_of entries place
+    ∙ ap as_count (get_or-element_numbers_past entries place past)
 
 -- the limits are counts of a formula
 pub limits_are_counts : (entries : Members) → IsFine limits entries → IsFormula (limits_of entries)
@@ -64,5 +70,8 @@ kind_right true fault none = refl
 kind_right false fault none = cc
 
 -- where a table of limits is not refused, some limit is positive
-pub some_limit_of : (name : List ℕ) (entries : Members) → bad_at (record { name = name; form = limits; value = table entries }) ≡ None → list_any (nat_lt 0) (limits_of entries) ≡ true
-some_limit_of name entries none = sym (some_limit (element_numbers entries)) ∙ kind_right (has_positive entries) (BadValue name) none
+pub some_limit_of : (name : List ℕ) (entries : Members)
+    → bad_at (record { name = name; form = limits; value = table entries }) ≡ None
+    → list_any (nat_lt 0) (limits_of entries) ≡ true
+some_limit_of name entries none = sym (some_limit (element_numbers entries))
+    ∙ kind_right (has_positive entries) (BadValue name) none

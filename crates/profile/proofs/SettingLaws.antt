@@ -19,10 +19,17 @@ within : (z : ℤ) (least most : ℕ) → most ≤ 2000000 → pos least ≤ℤ 
 within z least most small low high =
     let not_negative : pos 0 ≤ℤ z = omega (arith, ints, low) in
     let is = pos-as_count z not_negative in
-    record { fits = record { not_negative = not_negative; small = omega (arith, ints, high) }; from = omega (arith, ints, is, low); to = omega (arith, ints, is, high) }
+    record {
+      fits = record { not_negative = not_negative; small = omega (arith, ints, high) };
+      from = omega (arith, ints, is, low);
+      to = omega (arith, ints, is, high);
+    }
 
-pub setting : (entries : Members) (key : List ℕ) (least most other : ℕ) → IsFine whole entries → ((known : Known) → form_at known whole key ≡ number (pos least) (pos most)) → pos least ≤ℤ pos other → pos other ≤ℤ pos most → most ≤ 2000000
+pub setting : (entries : Members) (key : List ℕ) (least most other : ℕ) → IsFine whole entries
+    → ((known : Known) → form_at known whole key ≡ number (pos least) (pos most)) → pos least ≤ℤ pos other
+    → pos other ≤ℤ pos most → most ≤ 2000000
     → IsSetting least most (number_at entries key (pos other))
 setting entries key least most other fine is low high small =
-    let (from, to) = number_in_range whole entries key (pos least) (pos most) (pos other) fine (λ known same. is known) low high in
+    let (from, to) = number_in_range whole entries key (pos least) (pos most) (pos other) fine
+    (λ known same. is known) low high in
     within (number_at entries key (pos other)) least most small from to

@@ -1,5 +1,6 @@
 -- What one key or item more adds to the places of a walk. It serves `add_keys`, `add_items` and `add_losses`.
-use Rattle.std.proofs.Common.{◌≡◌, ◌∙◌, ◌+◌, ◌<◌, ℕ, suc, Bool, List, [], ◌∷◌, ◌++◌, get_or, length, drop, sym, ap, append_assoc, drop-cons, add-one}
+use Rattle.std.proofs.Common.{◌≡◌, ◌∙◌, ◌+◌, ◌<◌, ℕ, suc, Bool, List, [], ◌∷◌, ◌++◌, get_or, length, drop, sym, ap}
+use Rattle.std.proofs.Common.{append_assoc, drop-cons, add-one}
 use Rattle.std.specs.Prelude.{decimal}
 use Rattle.toml.specs.Data.{Data, Members, member}
 use Rattle.toml.specs.View.{items_view, view}
@@ -22,7 +23,8 @@ pub item_more : (known : Known) (form : Form) (before : List ℕ) (items : List 
     → more ++ places_of_items known form before (i + 1) (items_view (drop (i + 1) items))
     ≡ places ++ places_of_items known form before i (items_view (drop i items))
 item_more known form before items i item places more own name inside is added at_item named =
-    let parted : drop i items ≡ item ∷ drop (i + 1) items = rw add-one (drop-cons items i item inside ∙ ap (λ first. first ∷ drop (suc i) items) (sym is)) in
+    let parted : drop i items ≡ item ∷ drop (i + 1) items =
+    rw add-one (drop-cons items i item inside ∙ ap (λ first. first ∷ drop (suc i) items) (sym is)) in
     rw (parted, added, at_item, named) (append_assoc places _ _)
 
 pub loss_more : (taken taken' : List (List ℕ)) (before key : List ℕ) (value : Data) (rest : Members)

@@ -1,11 +1,15 @@
 -- What may stand at a place of a profile text: the keys of its tables, the kinds of its values, and the ranges of its
 -- numbers.
-use Rattle.std.specs.Prelude.{ℕ, zero, suc, ℤ, pos, neg_ℤ, int_lt, int_le, Bool, true, false, ◌&&◌, List, [], ◌∷◌, Option, Some, None, is_none, is_some, option_and_then, unwrap_or, codes, nat_le, bytes_eq, if◌then◌else◌}
+use Rattle.std.specs.Prelude.{ℕ, zero, suc, ℤ, pos, neg_ℤ, int_lt, int_le, Bool, true, false, ◌&&◌, List, [], ◌∷◌}
+use Rattle.std.specs.Prelude.{Option, Some, None, is_none, is_some, option_and_then, unwrap_or, codes, nat_le, bytes_eq}
+use Rattle.std.specs.Prelude.{if◌then◌else◌}
 use Rattle.std.specs.List.{list_any}
 use Rattle.std.specs.Map.{lookup}
 use Rattle.element_table.specs.Elements.{greatest_count}
-use Rattle.score_tables.specs.Tables.{falls_to_nought, greatest_losses, greatest_pairs, greatest_score, greatest_share, greatest_size, least_size, rises_to_whole}
-use Rattle.toml.specs.Data.{Data, string, integer, array, table, as_integer, at, Items, no_items, item, Members, no_members, member}
+use Rattle.score_tables.specs.Tables.{falls_to_nought, greatest_losses, greatest_pairs, greatest_score, greatest_share}
+use Rattle.score_tables.specs.Tables.{greatest_size, least_size, rises_to_whole}
+use Rattle.toml.specs.Data.{Data, string, integer, array, table, as_integer, at, Items, no_items, item, Members}
+use Rattle.toml.specs.Data.{no_members, member}
 use Rattle.profile.specs.Profile.{greatest_abs, greatest_budget, greatest_peaks, greatest_ppm, greatest_rules}
 use Rattle.profile.specs.Table.{element_numbers}
 
@@ -165,15 +169,15 @@ are_pairs no_items = true
 are_pairs (item value items) = is_pair value && are_pairs items
 
 -- the bound of a pair, and its score
-abbrev pub bound_of : Data → ℤ
-bound_of value = unwrap_or (integer_at 0 value) (pos 0)
+abbrev pub pair_bound : Data → ℤ
+pair_bound value = unwrap_or (integer_at 0 value) (pos 0)
 
-abbrev pub score_of : Data → ℤ
-score_of value = unwrap_or (integer_at 1 value) (pos 0)
+abbrev pub pair_score : Data → ℤ
+pair_score value = unwrap_or (integer_at 1 value) (pos 0)
 
 abbrev pub item_bounds : Items → List ℤ
 item_bounds no_items = []
-item_bounds (item value items) = bound_of value ∷ item_bounds items
+item_bounds (item value items) = pair_bound value ∷ item_bounds items
 
 -- whether a value has the kind of its form
 abbrev pub has_kind : Form → Data → Bool

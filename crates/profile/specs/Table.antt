@@ -1,8 +1,10 @@
 -- What a table says at a key.
-use Rattle.std.specs.Prelude.{ℕ, ◌-◌, ℤ, pos, Bool, false, List, ◌++◌, length, map, replicate, option_and_then, unwrap_or, bytes_eq}
+use Rattle.std.specs.Prelude.{ℕ, ◌-◌, ℤ, pos, Bool, false, List, ◌++◌, length, map, replicate, option_and_then}
+use Rattle.std.specs.Prelude.{unwrap_or, bytes_eq}
 use Rattle.std.specs.Option.{option_map_or}
 use Rattle.element_table.specs.Elements.{symbols, formula_places}
-use Rattle.toml.specs.Data.{Data, as_integer, as_str, as_array, as_table, get_member, Items, no_items, Members, no_members}
+use Rattle.toml.specs.Data.{Data, as_integer, as_str, as_array, as_table, get_member, Items, no_items, Members}
+use Rattle.toml.specs.Data.{no_members}
 
 -- the integer at a key, or else another
 abbrev pub number_at : Members → List ℕ → ℤ → ℤ

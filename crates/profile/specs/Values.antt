@@ -1,12 +1,14 @@
 -- The profile that a table gives which is not refused. What the table does not name is as in the default profile.
-use Rattle.std.specs.Prelude.{ℕ, ℤ, pos, negsuc, Bool, true, false, not, List, [], ◌∷◌, map, filter, Option, Some, None, option_and_then, unwrap_or, codes, if◌then◌else◌}
+use Rattle.std.specs.Prelude.{ℕ, ℤ, pos, negsuc, Bool, true, false, not, List, [], ◌∷◌, map, filter, Option, Some, None}
+use Rattle.std.specs.Prelude.{option_and_then, unwrap_or, codes, if◌then◌else◌}
 use Rattle.std.specs.Option.{option_map_or}
 use Rattle.element_table.specs.Formula.{empty_formula}
 use Rattle.element_table.specs.Rule.{Rule, Parity, any, even, odd}
 use Rattle.score_tables.specs.Default.{default_tables}
 use Rattle.score_tables.specs.Tables.{LossTable, ScoresValue, ShareTable, in_formula_order}
-use Rattle.toml.specs.Data.{Data, as_array, as_integer, as_table, get_member, Items, no_items, item, Members, no_members, member}
-use Rattle.profile.specs.Form.{bound_of, score_of}
+use Rattle.toml.specs.Data.{Data, as_array, as_integer, as_table, get_member, Items, no_items, item, Members}
+use Rattle.toml.specs.Data.{no_members, member}
+use Rattle.profile.specs.Form.{pair_bound, pair_score}
 use Rattle.profile.specs.Losses.{key_formula}
 use Rattle.profile.specs.Profile.{ProfileValue, default_profile_value}
 use Rattle.profile.specs.Table.{number_at, says, table_at, items_at, element_numbers}
@@ -54,7 +56,7 @@ rules_said neutral items = map rule_of (filter (is_kept neutral) (tables_in item
 
 -- the bound and the score of a pair
 abbrev pub pair_said : Data → ℕ × ℤ
-pair_said value = (as_count (bound_of value), score_of value)
+pair_said value = (as_count (pair_bound value), pair_score value)
 
 abbrev pub shares_said : Items → ShareTable
 shares_said no_items = []

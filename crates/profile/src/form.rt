@@ -182,8 +182,8 @@ impl Form {
     {
         match self {
             Form::Number(_, _) => value.is_integer(),
-            Form::Parity => is_word(value, &PARITIES),
-            Form::Apply => is_word(value, &USES),
+            Form::Parity => is_one_of(value, &PARITIES),
+            Form::Apply => is_one_of(value, &USES),
             Form::Elements => is_positive_table(value),
             Form::Coefficients
             | Form::Rule
@@ -259,7 +259,7 @@ fn is_symbol(elements: &[(&str, u64, u8)], key: &str) -> bool
 }
 
 /// Whether a value is one of some words.
-fn is_word(value: &Value, words: &[&str]) -> bool
+fn is_one_of(value: &Value, words: &[&str]) -> bool
     ensures { result ≡ spec.has_kind (spec.word (map (λ word. word.now) words.now)) (view value.now) }
 {
     match value.as_str() {
@@ -374,15 +374,15 @@ fn are_pairs(items: &Array) -> bool
 }
 
 /// The bound of a pair.
-pub(crate) fn bound_of(value: &Value) -> i64
-    ensures { result ≡ spec.bound_of (view value.now) }
+pub(crate) fn pair_bound(value: &Value) -> i64
+    ensures { result ≡ spec.pair_bound (view value.now) }
 {
     integer_at(value, 0).unwrap_or(0)
 }
 
 /// The score of a pair.
-pub(crate) fn score_of(value: &Value) -> i64
-    ensures { result ≡ spec.score_of (view value.now) }
+pub(crate) fn pair_score(value: &Value) -> i64
+    ensures { result ≡ spec.pair_score (view value.now) }
 {
     integer_at(value, 1).unwrap_or(0)
 }
@@ -426,11 +426,11 @@ fn bounds_fall(items: &Array) -> bool
     ensures { result ≡ falls_to_nought (spec.item_bounds (array_view items.now)) }
 {
     for place in 0..items.len() {
-        let bound = bound_of(&items[place]);
+        let bound = pair_bound(&items[place]);
         if place + 1 == items.len() {
             return is_number(bound, 0);
         }
-        if !is_below(bound_of(&items[place + 1]), bound) {
+        if !is_below(pair_bound(&items[place + 1]), bound) {
             return false;
         }
     }
@@ -442,11 +442,11 @@ fn bounds_rise(items: &Array) -> bool
     ensures { result ≡ rises_to_whole (spec.item_bounds (array_view items.now)) }
 {
     for place in 0..items.len() {
-        let bound = bound_of(&items[place]);
+        let bound = pair_bound(&items[place]);
         if place + 1 == items.len() {
             return is_number(bound, 1_000);
         }
-        if !is_below(bound, bound_of(&items[place + 1])) {
+        if !is_below(bound, pair_bound(&items[place + 1])) {
             return false;
         }
     }

@@ -51,7 +51,10 @@ fn look_at(alloc: Global, place: &Place<'_>, sought: Sought) -> Result<(), Profi
         }
         Sought::OverLimits => {
             if let Some(number) = place.form.excess(place.value) {
-                return Err(ProfileError::Refused(ProfileFault::OverLimit(name_of(alloc, place)?, number)));
+                return Err(ProfileError::Refused(ProfileFault::OverLimit(
+                    name_of(alloc, place)?,
+                    number,
+                )));
             }
         }
     }

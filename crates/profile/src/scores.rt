@@ -11,7 +11,7 @@ ghost use Rattle.score_tables.specs.Tables.{greatest_score, in_formula_order};
 ghost use Rattle.toml.specs.Data.{as_integer};
 ghost use Rattle.toml.specs.View.{view, array_view, table_view};
 
-use crate::form::{bound_of, score_of};
+use crate::form::{pair_bound, pair_score};
 use crate::table::{array_at, number_at, table_at};
 use element_table::{Formula, a_read_formula_is_one, read_formula};
 use score_tables::{
@@ -129,7 +129,7 @@ fn pair_of(item: &Value) -> (u16, i16)
     requires { IsShareItem (view item.now) }
     ensures { result ≡ spec.pair_said (view item.now) }
 {
-    (bound_of(item) as u16, score_of(item) as i16)
+    (pair_bound(item) as u16, pair_score(item) as i16)
 }
 
 /// The losses of a table, with their scores.

@@ -1,5 +1,6 @@
 -- What one line changes in what the lines before it left.
-use Rattle.std.specs.Prelude.{◌≡◌, ◌+◌, ◌++◌, ℕ, List, [], ◌∷◌, ◌==◌, if◌then◌else◌, Option, Some, None, unwrap_or, length, Result, Ok, Err}
+use Rattle.std.specs.Prelude.{◌≡◌, ◌+◌, ◌++◌, ℕ, List, [], ◌∷◌, ◌==◌, if◌then◌else◌, Option, Some, None, unwrap_or}
+use Rattle.std.specs.Prelude.{length, Result, Ok, Err}
 use Rattle.mgf_reader.specs.declared.spectrum.Charge.{Charge}
 use Rattle.mgf_reader.specs.declared.fault.MgfKind.{MgfKind}
 use Rattle.mgf_reader.specs.declared.fault.MgfKind.TheVariants.{OpenBlock}

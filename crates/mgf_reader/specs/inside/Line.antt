@@ -1,7 +1,8 @@
 -- How a line that was read, and what it sets, answer to the line's form.
 use Rattle.std.specs.Prelude.{◌≡◌, ℕ, List, Option, Some, None}
 use Rattle.mgf_reader.specs.declared.line.Line.{Line}
-use Rattle.mgf_reader.specs.declared.line.Line.TheVariants.{TooLong, Blank, Comment, Begin, End, Parameter, Peak, Remark, NoForm}
+use Rattle.mgf_reader.specs.declared.line.Line.TheVariants.{TooLong, Blank, Comment, Begin, End, Parameter, Peak}
+use Rattle.mgf_reader.specs.declared.line.Line.TheVariants.{Remark, NoForm}
 use Rattle.mgf_reader.specs.declared.setting.Setting.{Setting}
 use Rattle.mgf_reader.specs.declared.setting.Setting.TheVariants.{Title, Precursor, Charges, Nothing}
 use Rattle.mgf_reader.specs.declared.setting.SettingFault.{SettingFault}

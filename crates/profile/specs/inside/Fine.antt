@@ -4,7 +4,7 @@ use Rattle.toml.specs.Data.{Data, as_integer, Items, no_items, item, Members, no
 use Rattle.element_table.specs.Elements.{symbols}
 use Rattle.element_table.specs.Rule.{IsNearZero}
 use Rattle.score_tables.specs.Tables.{greatest_score, greatest_share}
-use Rattle.profile.specs.Form.{Form, Known, bound_of, score_of}
+use Rattle.profile.specs.Form.{Form, Known, pair_bound, pair_score}
 use Rattle.profile.specs.Places.{places_of_keys, places_of_items, places_of_losses}
 use Rattle.profile.specs.Refusal.{refusal_of}
 
@@ -32,9 +32,9 @@ pub record AreFineLosses (taken : List (List ℕ)) (members : Members) : Type 0 
 
 -- a pair whose numbers are in their ranges
 pub record IsShareItem (value : Data) : Type 0 where
-  pub not_negative : pos 0 ≤ℤ bound_of value
-  pub within : bound_of value ≤ℤ pos greatest_share
-  pub near : IsNearZero greatest_score (score_of value)
+  pub not_negative : pos 0 ≤ℤ pair_bound value
+  pub within : pair_bound value ≤ℤ pos greatest_share
+  pub near : IsNearZero greatest_score (pair_score value)
 
 abbrev pub AreShareItems : Items → Type 0
 AreShareItems no_items = ⊤

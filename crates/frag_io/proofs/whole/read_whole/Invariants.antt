@@ -8,7 +8,8 @@ abbrev pub invariant-loop-buffer : goal.invariant-loop-buffer
 invariant-loop-buffer g l = record {
   short : length l.text.items ≤ l.limit;
   room : length l.buffer.items ≡ greatest_piece;
-  left : IfSome ((g.D.Desk.state l.fn.desk).left l.slot) (λ text. (rest : List ℕ) × ((g.D.Desk.state l.desk).left l.slot ≡ Some rest) × (text ≡ l.text.items ++ rest));
+  left : IfSome ((g.D.Desk.state l.fn.desk).left l.slot)
+      (λ text. (rest : List ℕ) × ((g.D.Desk.state l.desk).left l.slot ≡ Some rest) × (text ≡ l.text.items ++ rest));
   begun : Same (g.D.Desk.state l.fn.desk).begun (g.D.Desk.state l.desk).begun;
   finished : Same (g.D.Desk.state l.fn.desk).finished (g.D.Desk.state l.desk).finished;
   names : Same (g.D.Desk.state l.fn.desk).names (g.D.Desk.state l.desk).names;

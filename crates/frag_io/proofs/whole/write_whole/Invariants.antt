@@ -6,7 +6,8 @@ use Rattle.frag_io.proofs.whole.write_whole.Given as goal
 abbrev pub invariant-loop-done : goal.invariant-loop-done
 invariant-loop-done g l = record {
   within : l.done ≤ length l.bytes;
-  part : (g.D.Desk.state l.desk).written l.slot ≡ appended ((g.D.Desk.state l.fn.desk).written l.slot) (take l.done l.bytes);
+  part : (g.D.Desk.state l.desk).written l.slot
+      ≡ appended ((g.D.Desk.state l.fn.desk).written l.slot) (take l.done l.bytes);
   begun : Same (g.D.Desk.state l.fn.desk).begun (g.D.Desk.state l.desk).begun;
   finished : Same (g.D.Desk.state l.fn.desk).finished (g.D.Desk.state l.desk).finished;
   names : Same (g.D.Desk.state l.fn.desk).names (g.D.Desk.state l.desk).names;

@@ -10,5 +10,7 @@ pub returns-clause-place : goal.returns-clause-place
 returns-clause-place c =
     let bytes = c.args.bytes.now in
     let p = is_of c.args.class in
-    let found : c.position.result ≡ position p bytes = position_from_yields_List p _ _ c.position.result c.position.ensures.ran (YieldsList-from_slice bytes cc) (λ x b q k. search (rules, tests)) in
+    let found : c.position.result ≡ position p bytes =
+    position_from_yields_List p _ _ c.position.result c.position.ensures.ran (YieldsList-from_slice bytes cc)
+    (λ x b q k. search (rules, tests)) in
     c.unwrap_or.ensures ∙ ap (λ place. unwrap_or place (length bytes)) found ∙ place_is p bytes

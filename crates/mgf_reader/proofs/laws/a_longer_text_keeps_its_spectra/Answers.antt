@@ -17,10 +17,13 @@ returns-clause-whole c text more spectra fault reads =
       reads = whole.reads;
       part = (
         longer.part.0 ++ whole.part.0,
-        whole.part.1 ∙ ap (λ (found : List SpectrumValue). found ++ whole.part.0) longer.part.1 ∙ append_assoc spectra longer.part.0 whole.part.0,
+        whole.part.1 ∙ ap (λ (found : List SpectrumValue). found ++ whole.part.0) longer.part.1
+            ∙ append_assoc spectra longer.part.0 whole.part.0,
       );
     }
 
 pub returns-clause-fault : goal.returns-clause-fault
-returns-clause-fault c text more spectra fault reads =
-    (fault-goes text more spectra fault reads, fault-ends (text ++ more) spectra fault (fault-goes text more spectra fault reads))
+returns-clause-fault c text more spectra fault reads = (
+  fault-goes text more spectra fault reads,
+  fault-ends (text ++ more) spectra fault (fault-goes text more spectra fault reads),
+)

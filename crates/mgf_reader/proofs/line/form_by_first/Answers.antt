@@ -9,7 +9,8 @@ pub returns-then-is_peak_start : goal.returns-then-is_peak_start
 returns-then-is_peak_start c = peak_by_first c.args.line.now (sym c.is_peak_start.ensures ∙ c.if-is_peak_start.true)
 
 pub returns-then-is_comment_mark : goal.returns-then-is_comment_mark
-returns-then-is_comment_mark c = comment_by_first c.args.line.now (sym c.is_comment_mark.ensures ∙ c.if-is_comment_mark.true)
+returns-then-is_comment_mark c = comment_by_first c.args.line.now (sym c.is_comment_mark.ensures
+    ∙ c.if-is_comment_mark.true)
 
 pub returns-else-is_comment_mark : goal.returns-else-is_comment_mark
 returns-else-is_comment_mark c = no_form_by_first c.args.line.now (λ same. omega (arith, ap length same))

@@ -1,4 +1,5 @@
-use Rattle.std.proofs.Common.{◌≡◌, ◌∙◌, ◌+◌, ◌<◌, ◌≤◌, pos, ◌&&◌, get_or, length, rules, sym, ap, arith, w64, FitsSigned, to_z, of_z}
+use Rattle.std.proofs.Common.{◌≡◌, ◌∙◌, ◌+◌, ◌<◌, ◌≤◌, pos, ◌&&◌, get_or, length, rules, sym, ap, arith, w64}
+use Rattle.std.proofs.Common.{FitsSigned, to_z, of_z}
 use Rattle.std.specs.Prelude.{int_lt}
 use Rattle.std.specs.Ordering.{int_eq}
 use Rattle.std.proofs.lemmas.Grind.{common_steps}
@@ -17,8 +18,9 @@ returns-then-place-len c =
     let here : get_or values i item ≡ item = grind (arith, common_steps) in
     let len : c.len.result ≡ length values = search rules in
     let last : i + 1 ≡ length values = c.if-place-len.true ∙ len in
-    let fits : FitsSigned w64 c.bound_of-bound.result = search rules in
-    let bound : to_z w64 (of_z w64 c.bound_of-bound.result) ≡ spec.bound_of (view (get_or values i item)) = rw (to_z-of_z w64 c.bound_of-bound.result fits, here) c.bound_of-bound.ensures in
+    let fits : FitsSigned w64 c.pair_bound-bound.result = search rules in
+    let bound : to_z w64 (of_z w64 c.pair_bound-bound.result) ≡ spec.pair_bound (view (get_or values i item)) =
+    rw (to_z-of_z w64 c.pair_bound-bound.result fits, here) c.pair_bound-bound.ensures in
     c.is_number.ensures ∙ ap (λ b. int_eq b (pos 1000)) bound ∙ sym (ordered_last int_lt (pos 1000) values i item last)
     ∙ c.loop-place.invariant ∙ ap rises_to_whole (bounds_from-start values)
 
@@ -31,10 +33,13 @@ returns-then-not-is_below c =
     let here : get_or values i item ≡ item = grind (arith, common_steps) in
     let there : get_or values (i + 1) item ≡ next = grind (arith, common_steps) in
     let more : i + 1 < length values = grind (arith, common_steps) in
-    let fits : FitsSigned w64 c.bound_of-bound.result = search rules in
-    let fits_next : FitsSigned w64 c.bound_of.result = search rules in
-    let step = ordered_step int_lt (pos 1000) values i item next c.bound_of-bound.result c.bound_of.result c.is_below.result more here there c.bound_of-bound.ensures c.bound_of.ensures fits fits_next c.is_below.ensures in
-    sym (step ∙ ap (λ t. t && rises_to_whole (bounds_from values (i + 1))) c.if-not-is_below.true) ∙ c.loop-place.invariant ∙ ap rises_to_whole (bounds_from-start values)
+    let fits : FitsSigned w64 c.pair_bound-bound.result = search rules in
+    let fits_next : FitsSigned w64 c.pair_bound.result = search rules in
+    let step = ordered_step int_lt (pos 1000) values i item next c.pair_bound-bound.result c.pair_bound.result
+    c.is_below.result more here there c.pair_bound-bound.ensures c.pair_bound.ensures fits fits_next
+    c.is_below.ensures in
+    sym (step ∙ ap (λ t. t && rises_to_whole (bounds_from values (i + 1))) c.if-not-is_below.true)
+    ∙ c.loop-place.invariant ∙ ap rises_to_whole (bounds_from-start values)
 
 pub loop-place-preserved : goal.loop-place-preserved
 loop-place-preserved c =
@@ -45,13 +50,17 @@ loop-place-preserved c =
     let here : get_or values i item ≡ item = grind (arith, common_steps) in
     let there : get_or values (i + 1) item ≡ next = grind (arith, common_steps) in
     let more : i + 1 < length values = grind (arith, common_steps) in
-    let fits : FitsSigned w64 c.bound_of-bound.result = search rules in
-    let fits_next : FitsSigned w64 c.bound_of.result = search rules in
-    let step = ordered_step int_lt (pos 1000) values i item next c.bound_of-bound.result c.bound_of.result c.is_below.result more here there c.bound_of-bound.ensures c.bound_of.ensures fits fits_next c.is_below.ensures in
-    sym (step ∙ ap (λ t. t && rises_to_whole (bounds_from values (i + 1))) c.if-not-is_below.false) ∙ c.loop-place.invariant
+    let fits : FitsSigned w64 c.pair_bound-bound.result = search rules in
+    let fits_next : FitsSigned w64 c.pair_bound.result = search rules in
+    let step = ordered_step int_lt (pos 1000) values i item next c.pair_bound-bound.result c.pair_bound.result
+    c.is_below.result more here there c.pair_bound-bound.ensures c.pair_bound.ensures fits fits_next
+    c.is_below.ensures in
+    sym (step ∙ ap (λ t. t && rises_to_whole (bounds_from values (i + 1))) c.if-not-is_below.false)
+    ∙ c.loop-place.invariant
 
 pub returns : goal.returns
 returns c =
     let values = c.args.items.now.items in
     let past : length values ≤ c.loop-place.place = grind (arith, common_steps) in
-    sym (ordered_none int_lt (pos 1000) values c.loop-place.place past) ∙ c.loop-place.invariant ∙ ap rises_to_whole (bounds_from-start values)
+    sym (ordered_none int_lt (pos 1000) values c.loop-place.place past) ∙ c.loop-place.invariant
+    ∙ ap rises_to_whole (bounds_from-start values)

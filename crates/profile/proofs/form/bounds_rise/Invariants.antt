@@ -4,4 +4,5 @@ use Rattle.profile.proofs.KindLaws.{bounds_from}
 use Rattle.profile.proofs.form.bounds_rise.Given as goal
 
 abbrev pub invariant-loop-place : goal.invariant-loop-place
-invariant-loop-place l = rises_to_whole (bounds_from l.items.items l.place) ≡ rises_to_whole (bounds_from l.items.items 0)
+invariant-loop-place l = rises_to_whole (bounds_from l.items.items l.place)
+    ≡ rises_to_whole (bounds_from l.items.items 0)

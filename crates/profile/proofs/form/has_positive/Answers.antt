@@ -8,4 +8,5 @@ use Rattle.profile.proofs.form.has_positive.Goals as goal
 pub returns : goal.returns
 returns c =
     let numbers = element_numbers (table_view c.args.table.now) in
-    rw (drop_all c.loop-place.place numbers (omega (arith, length-element_numbers (table_view c.args.table.now)))) at c.loop-place.invariant
+    rw (drop_all c.loop-place.place numbers (omega (arith, length-element_numbers (table_view c.args.table.now)))) at
+    c.loop-place.invariant

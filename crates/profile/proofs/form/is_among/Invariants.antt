@@ -3,4 +3,5 @@ use Rattle.std.specs.List.{list_any}
 use Rattle.profile.proofs.form.is_among.Given as goal
 
 abbrev pub invariant-loop-word : goal.invariant-loop-word
-invariant-loop-word l = list_any (bytes_eq l.text) (map (λ word. word.now) (drop l.word-index l.words)) ≡ list_any (bytes_eq l.text) (map (λ word. word.now) l.words)
+invariant-loop-word l = list_any (bytes_eq l.text) (map (λ word. word.now) (drop l.word-index l.words))
+    ≡ list_any (bytes_eq l.text) (map (λ word. word.now) l.words)

@@ -7,4 +7,6 @@ use Rattle.profile.proofs.form.too_many_keys.Goals as goal
 pub returns-in-Some : goal.returns-in-Some
 returns-in-Some c =
     let len : c.len.result ≡ length c.in-Some.table.now.entries = search rules in
-    c.too_many.ensures ∙ ap (too_many c.args.greatest) len ∙ sym (keys_excess-table c.args.greatest (view c.args.value.now) c.in-Some.table.now.entries (sym c.in-Some.ensures))
+    c.too_many.ensures ∙ ap (too_many c.args.greatest) len
+    ∙ sym (keys_excess-table c.args.greatest (view c.args.value.now) c.in-Some.table.now.entries
+    (sym c.in-Some.ensures))

@@ -28,7 +28,7 @@ add_items-items-preserved t c =
     let form = form_seen c.args.form in
     let before = c.args.before.now in
     let named = c.in_ok-name.ensures
-      ∙ ap (λ bytes. before ++ bytes) (c.as_bytes.ensures.value ∙ c.in_ok-step.ensures.ok) in
+    ∙ ap (λ bytes. before ++ bytes) (c.as_bytes.ensures.value ∙ c.in_ok-step.ensures.ok) in
     item_more known form before c.deref-item-items.result.now c.items.number-counter c.item-item.result
     (places_seen c.items.places.items) (places_seen c.add_place.new.places.items) (form_seen c.of_item.result)
     c.in_ok-name.name.items c.items-test.true c.item-item.is c.in_ok-add_place.ensures c.of_item.ensures named

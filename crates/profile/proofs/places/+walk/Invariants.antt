@@ -7,10 +7,14 @@ use Rattle.profile.proofs.places.+walk.Given as goal
 
 abbrev pub invariant-add_items-items : goal.invariant-add_items-items
 invariant-add_items-items l =
-    places_seen l.places.items ++ places_of_items (known_seen l.fn.walk) (form_seen l.fn.form) l.fn.before l.number-counter (items_view (drop l.number-counter l.item-items))
-    ≡ places_seen l.fn.places.items ++ places_of_items (known_seen l.fn.walk) (form_seen l.fn.form) l.fn.before 0 (items_view l.item-items)
+    places_seen l.places.items ++ places_of_items (known_seen l.fn.walk)
+    (form_seen l.fn.form) l.fn.before l.number-counter (items_view (drop l.number-counter l.item-items))
+    ≡ places_seen l.fn.places.items ++ places_of_items (known_seen l.fn.walk) (form_seen l.fn.form) l.fn.before 0
+    (items_view l.item-items)
 
 abbrev pub invariant-add_keys-keys : goal.invariant-add_keys-keys
 invariant-add_keys-keys l =
-    places_seen l.places.items ++ places_of_keys (known_seen l.fn.walk) (form_seen l.fn.form) l.fn.before (members_view l.key-iterator)
-    ≡ places_seen l.fn.places.items ++ places_of_keys (known_seen l.fn.walk) (form_seen l.fn.form) l.fn.before (members_view l.fn.table.entries)
+    places_seen l.places.items ++ places_of_keys (known_seen l.fn.walk) (form_seen l.fn.form) l.fn.before
+    (members_view l.key-iterator)
+    ≡ places_seen l.fn.places.items ++ places_of_keys (known_seen l.fn.walk) (form_seen l.fn.form) l.fn.before
+    (members_view l.fn.table.entries)

@@ -10,5 +10,7 @@ pub returns : goal.returns
 returns c =
     let entries = table_view c.args.table.now in
     c.in_ok-add_keys.ensures
-    ∙ ap (λ items. places_seen items ++ places_of_keys (record { symbols = symbols; named = losses_seen c.named_losses.result }) whole [] entries) c.new-places.ensures.items
+    ∙ ap (λ items. places_seen items ++ places_of_keys
+    (record { symbols = symbols; named = losses_seen c.named_losses.result }) whole [] entries)
+    c.new-places.ensures.items
     ∙ ap (λ named. places_of_keys (record { symbols = symbols; named = named }) whole [] entries) c.named_losses.ensures

@@ -4,4 +4,5 @@ use Rattle.profile.specs.Losses.{taken_by}
 use Rattle.profile.proofs.places.losses_in.Given as goal
 
 abbrev pub invariant-loop-key : goal.invariant-loop-key
-invariant-loop-key l = taken_by l.taken.keys (members_view l.key-iterator) ≡ taken_by [] (members_view l.fn.table.entries)
+invariant-loop-key l = taken_by l.taken.keys (members_view l.key-iterator)
+    ≡ taken_by [] (members_view l.fn.table.entries)

@@ -12,7 +12,8 @@ invariant_of-result c = record {
   limits = search rules;
   rules = search rules;
   neutral_rules = search rules;
-  scores = rw c.in_ok-default_tables.ensures (c.sorted_tables_are_right.ensures default_tables c.default_tables_are_right.ensures);
+  scores = rw c.in_ok-default_tables.ensures
+      (c.sorted_tables_are_right.ensures default_tables c.default_tables_are_right.ensures);
   few_rules = search rules;
   some_element = search rules;
 }

@@ -17,12 +17,15 @@ returns-in_err-search_all-clause-refused c =
     let p = err_from_is_err_and c.from_residual-in_err-search_all.result c.from_residual-in_err-search_all.ensures.1 in
     let entries = table_view c.in_ok-table.table in
     let error = c.in_err-search_all.field-0.0 in
-    let searched : refusal_of (places_seen c.deref.result.now) ≡ refusal_of (places_of entries) = rw (c.deref.ensures.value, c.in_ok-places.ensures) in
+    let searched : refusal_of (places_seen c.deref.result.now) ≡ refusal_of (places_of entries) =
+    rw (c.deref.ensures.value, c.in_ok-places.ensures) in
     rw (p.1, p.2) (λ fault same. profile_of-refused c.args.bytes.now entries fault c.in_ok-table.ensures.read
     (sym searched ∙ told error fault _ c.in_err-search_all.ensures same))
 
 pub returns-clause-read : goal.returns-clause-read
 returns-clause-read c =
     let entries = table_view c.in_ok-table.table in
-    let searched : refusal_of (places_seen c.deref.result.now) ≡ refusal_of (places_of entries) = rw (c.deref.ensures.value, c.in_ok-places.ensures) in
-    rw c.in_ok-profile_in.ensures (profile_of-read c.args.bytes.now entries c.in_ok-table.ensures.read (sym searched ∙ c.in_ok-search_all.ensures))
+    let searched : refusal_of (places_seen c.deref.result.now) ≡ refusal_of (places_of entries) =
+    rw (c.deref.ensures.value, c.in_ok-places.ensures) in
+    rw c.in_ok-profile_in.ensures (profile_of-read c.args.bytes.now entries c.in_ok-table.ensures.read (sym searched
+    ∙ c.in_ok-search_all.ensures))

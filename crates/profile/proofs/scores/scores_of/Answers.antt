@@ -16,6 +16,9 @@ new-requires c =
     let entries = table_view c.args.scores.now in
     let fits_radical : FitsSigned w16 c.score_at.result = search rules in
     let fits_negative : FitsSigned w16 c.score_at-2.result = search rules in
-    let same = tables_same entries _ _ _ _ _ _ _ c.in_ok-intensity_in.ensures c.in_ok-error_in.ensures c.in_ok-named_in.ensures c.in_ok-implausible_in.ensures
-    (to_z-of_z w16 c.score_at.result fits_radical ∙ c.score_at.ensures) (to_z-of_z w16 c.score_at-2.result fits_negative ∙ c.score_at-2.ensures) c.size_in.ensures in
-    subst IsScores (sym same) (tables_right c.a_read_formula_is_one.ensures c.default_tables_are_right.ensures entries c.requires)
+    let same = tables_same entries _ _ _ _ _ _ _ c.in_ok-intensity_in.ensures c.in_ok-error_in.ensures
+    c.in_ok-named_in.ensures c.in_ok-implausible_in.ensures
+    (to_z-of_z w16 c.score_at.result fits_radical ∙ c.score_at.ensures) (to_z-of_z w16 c.score_at-2.result fits_negative
+    ∙ c.score_at-2.ensures) c.size_in.ensures in
+    subst IsScores (sym same) (tables_right c.a_read_formula_is_one.ensures c.default_tables_are_right.ensures entries
+    c.requires)

@@ -8,11 +8,14 @@ use Rattle.profile.proofs.ElementCast.{counted, fits_size}
 use Rattle.profile.proofs.ScoreLaws.{size_in_range}
 use Rattle.profile.proofs.scores.size_in.Goals as goal
 
-said : (c : goal.After-number_at) → c.number_at.result ≡ number_at (table_view c.args.scores.now) (codes "size") (pos 200000000)
+said : (c : goal.After-number_at) → c.number_at.result
+    ≡ number_at (table_view c.args.scores.now) (codes "size") (pos 200000000)
 said c = search rules
 
-in_range : (c : goal.After-number_at) → (pos least_size ≤ℤ c.number_at.result) × (c.number_at.result ≤ℤ pos greatest_size)
-in_range c = subst (λ z. (pos least_size ≤ℤ z) × (z ≤ℤ pos greatest_size)) (sym (said c)) (size_in_range (table_view c.args.scores.now) c.requires)
+in_range : (c : goal.After-number_at) → (pos least_size ≤ℤ c.number_at.result)
+    × (c.number_at.result ≤ℤ pos greatest_size)
+in_range c = subst (λ z. (pos least_size ≤ℤ z) × (z ≤ℤ pos greatest_size)) (sym (said c))
+    (size_in_range (table_view c.args.scores.now) c.requires)
 
 pub overflow_cast-result : goal.overflow_cast-result
 overflow_cast-result c = fits_size c.number_at.result (search rules) (in_range c).0 (in_range c).1

@@ -9,7 +9,8 @@ pub returns-then-place-lt11 : goal.returns-then-place-lt11
 returns-then-place-lt11 c =
     let fits : FitsSigned w64 c.number_at.result = search rules in
     let entries = table_view c.args.table.now in
-    rw to_z-of_z (c.number_at.ensures ∙ ap (λ symbol. number_at entries symbol (pos 0)) c.symbol_at.ensures.symbol ∙ sym (get_or-element_numbers entries c.args.place c.if-place-lt11.true))
+    rw to_z-of_z (c.number_at.ensures ∙ ap (λ symbol. number_at entries symbol (pos 0)) c.symbol_at.ensures.symbol
+    ∙ sym (get_or-element_numbers entries c.args.place c.if-place-lt11.true))
 
 pub returns-else-place-lt11 : goal.returns-else-place-lt11
 returns-else-place-lt11 c = sym (get_or-element_numbers_past (table_view c.args.table.now) c.args.place (omega arith))

@@ -5,4 +5,5 @@ use Rattle.profile.proofs.values.coefficients_of.Given as goal
 
 -- the places so far, and noughts
 abbrev pub invariant-loop-place : goal.invariant-loop-place
-invariant-loop-place l = l.coefficients ≡ take l.place (element_numbers (table_view l.elements)) ++ replicate (16 - l.place) (pos 0)
+invariant-loop-place l = l.coefficients ≡ take l.place (element_numbers (table_view l.elements))
+    ++ replicate (16 - l.place) (pos 0)

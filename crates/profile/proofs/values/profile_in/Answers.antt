@@ -5,20 +5,25 @@ use Rattle.profile.proofs.SettingLaws.{setting}
 use Rattle.profile.proofs.values.profile_in.Goals as goal
 
 pub count_at-requires : goal.count_at-requires
-count_at-requires c = (setting (table_view c.args.table.now) (codes "ppm") 0 100 10 c.requires (λ known. refl) (omega arith) (omega arith) (omega arith)).fits
+count_at-requires c = (setting (table_view c.args.table.now) (codes "ppm") 0 100 10 c.requires (λ known. refl)
+    (omega arith) (omega arith) (omega arith)).fits
 
 pub count_at-requires-2 : goal.count_at-requires-2
-count_at-requires-2 c = (setting (table_view c.args.table.now) (codes "abs") 0 2000000 10000 c.requires (λ known. refl) (omega arith) (omega arith) (omega arith)).fits
+count_at-requires-2 c = (setting (table_view c.args.table.now) (codes "abs") 0 2000000 10000 c.requires (λ known. refl)
+    (omega arith) (omega arith) (omega arith)).fits
 
 pub count_at-requires-3 : goal.count_at-requires-3
-count_at-requires-3 c = (setting (table_view c.args.table.now) (codes "peaks") 1 12 12 c.requires (λ known. refl) (omega arith) (omega arith) (omega arith)).fits
+count_at-requires-3 c = (setting (table_view c.args.table.now) (codes "peaks") 1 12 12 c.requires (λ known. refl)
+    (omega arith) (omega arith) (omega arith)).fits
 
 pub count_at-requires-4 : goal.count_at-requires-4
-count_at-requires-4 c = (setting (table_view c.args.table.now) (codes "budget") 0 10000 200 c.requires (λ known. refl) (omega arith) (omega arith) (omega arith)).fits
+count_at-requires-4 c = (setting (table_view c.args.table.now) (codes "budget") 0 10000 200 c.requires (λ known. refl)
+    (omega arith) (omega arith) (omega arith)).fits
 
 pub invariant_of-result : goal.invariant_of-result
 invariant_of-result c =
-    let known = is_profile c.a_read_formula_is_one.ensures c.default_tables_are_right.ensures c.sorted_tables_are_right.ensures (table_view c.args.table.now) c.requires in
+    let known = is_profile c.a_read_formula_is_one.ensures c.default_tables_are_right.ensures
+    c.sorted_tables_are_right.ensures (table_view c.args.table.now) c.requires in
     record {
       ppm = rw c.count_at.ensures known.ppm;
       abs = rw c.count_at-2.ensures known.abs;

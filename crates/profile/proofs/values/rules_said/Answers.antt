@@ -24,7 +24,8 @@ loop-item-preserved c =
     let at : get_or values i item ≡ item = grind (arith, common_steps) in
     let step = items_view-drop values i item c.loop-item-test.true in
     let fine = rw (step, at) at c.loop-item.invariant.fine in
-    let so_far = rw (step, at, rules_said-first c.args.neutral (view item) (items_view (drop (i + 1) values))) at c.loop-item.invariant.so_far in
+    let so_far = rw (step, at, rules_said-first c.args.neutral (view item) (items_view (drop (i + 1) values))) at
+    c.loop-item.invariant.so_far in
     record {
       fine = fine_others rules (view item) (items_view (drop (i + 1) values)) fine;
       so_far = rw (c.in_ok-add_rule.ensures, append_assoc) so_far;

@@ -8,5 +8,6 @@ use Rattle.profile.proofs.values.rules_said.Given as goal
 abbrev pub invariant-loop-item : goal.invariant-loop-item
 invariant-loop-item l = record {
   fine : AreFine rules (items_view (drop l.item-index l.item-items));
-  so_far : l.rules.items ++ rules_said l.neutral (items_view (drop l.item-index l.item-items)) ≡ rules_said l.neutral (items_view l.item-items);
+  so_far : l.rules.items ++ rules_said l.neutral (items_view (drop l.item-index l.item-items))
+      ≡ rules_said l.neutral (items_view l.item-items);
 }

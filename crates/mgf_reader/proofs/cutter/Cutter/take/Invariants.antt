@@ -5,7 +5,8 @@ use Rattle.mgf_reader.proofs.cutter.Cutter.take.Given as goal
 
 abbrev pub invariant-loop-at : goal.invariant-loop-at
 invariant-loop-at l = record {
-  size : l.self.lines.judged + length l.self.unfinished + length l.rest ≤ l.fn.self.lines.judged + length l.fn.self.unfinished + length l.fn.piece;
+  size : l.self.lines.judged + length l.self.unfinished + length l.rest ≤ l.fn.self.lines.judged
+      + length l.fn.self.unfinished + length l.fn.piece;
   waits : IsFirstPart l.fn.self.lines.waiting l.self.lines.waiting;
   taken : TakenTo l.fn.self l.fn.piece l.rest l.self;
 }
