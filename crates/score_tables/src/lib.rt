@@ -16,5 +16,3 @@ pub use laws::{
 };
 pub use scores::Scores;
 
-#[cfg(test)]
-mod tests;
