@@ -1,13 +1,13 @@
 -- Of all definitions: worked examples, computed: a graph with a trap, where the heaviest edge from the root is not in
 -- the best tree, and the root alone.
-use Rattle.std.proofs.Common.{◌≡◌, ◌≢◌, ◌+◌, ◌<◌, ◌≤◌, ◌⊎◌, inl, inr, ℕ, zero, suc, ℤ, pos, negsuc, ◌+ℤ◌, ◌≤ℤ◌, true, false, List, [], ◌∷◌, refl, arith, sym, ◌∙◌, subst}
+use Rattle.std.proofs.Common.{◌≡◌, ◌≢◌, ◌+◌, ◌<◌, ◌≤◌, ◌↔◌, ◌⊎◌, inl, inr, ℕ, zero, suc, ℤ, pos, negsuc, ◌+ℤ◌, ◌≤ℤ◌, true, false, List, [], ◌∷◌, refl, arith, sym, ◌∙◌, subst}
 use Rattle.std.proofs.lemmas.Int.{ints}
 use Rattle.std.specs.List.{All, AllPairs, Contains}
 use Rattle.colour_graph.specs.declared.edge.Edge.{Edge}
 use Rattle.colour_graph.specs.Graph.{Graph, HasColours, IsEdge, IsScore, colour_count, colour_of, edge_at, head_colour}
 use Rattle.colour_graph.specs.Building.{root_alone, with_edge, with_vertex}
 use Rattle.colour_graph.specs.Colourful.{IsColourful, IsReached, at_head, at_root, score_of}
-use Rattle.colour_graph.specs.EdgeSet.{all_edges, colours_of, edges_into, leaving, only}
+use Rattle.colour_graph.specs.EdgeSet.{AreInto, all_edges, colours_of, edges_into, leaving, only}
 use Rattle.colour_graph.specs.Bounded.{IsBest, IsBounded}
 use Rattle.colour_graph.specs.Maximal.{IsMaximal}
 use Rattle.colour_graph.specs.Cap.{cap_of}
@@ -122,8 +122,15 @@ cap_of-trap = refl
 cap_of-alone : cap_of alone (all_edges alone) ≡ pos 4
 cap_of-alone = refl
 
+-- a losing edge: the root alone scores more
+abbrev losing : Graph
+losing = with_edge (with_vertex alone 1) (joining 0 1 (negsuc 0))
+
+score_of-losing : score_of losing (0 ∷ []) ≡ pos 3
+score_of-losing = refl
+
 -- a colour without an edge of positive weight adds nothing to a cap
-cap_of-losing : cap_of (with_edge (with_vertex (root_alone (pos 4)) 1) (joining 0 1 (negsuc 0))) (true ∷ []) ≡ pos 4
+cap_of-losing : cap_of losing (true ∷ []) ≡ pos 4
 cap_of-losing = refl
 
 edges_into-trap : edges_into trap (all_edges trap) 2 ≡ 2 ∷ 3 ∷ 4 ∷ []
@@ -141,6 +148,23 @@ edges_into-fewer = refl
 
 cap_of-fewer : cap_of trap (leaving (only trap (all_edges trap) 1 (1 ∷ [])) (4 ∷ [])) ≡ pos 5
 cap_of-fewer = refl
+
+-- no edge goes to colour 2 of this graph: both places are behind the edge into colour 1
+abbrev gapped : Graph
+gapped = with_edge (with_edge (with_vertex (with_vertex (with_vertex (root_alone (pos 0)) 1) 2) 3) (joining 0 1 (pos 1))) (joining 0 3 (pos 1))
+
+AreInto-gapped : AreInto gapped 2 1 1
+AreInto-gapped = record { in_order = omega arith; within = omega arith; members = members; smaller = smaller }
+  where
+    members : (edge : ℕ) → edge < 2 → ((1 ≤ edge) × (edge < 1)) ↔ (head_colour gapped edge ≡ 2)
+    members zero within = (λ between. absurd (omega (arith, between.0)), λ same. absurd (omega (arith, same)))
+    members (suc zero) within = (λ between. absurd (omega (arith, between.1)), λ same. absurd (omega (arith, same)))
+    members (suc (suc edge)) within = absurd (omega (arith, within))
+
+    smaller : (edge : ℕ) → edge < 2 → (edge < 1) ↔ (head_colour gapped edge < 2)
+    smaller zero within = (λ before. omega arith, λ less. omega arith)
+    smaller (suc zero) within = (λ before. absurd (omega (arith, before)), λ less. absurd (omega (arith, less)))
+    smaller (suc (suc edge)) within = absurd (omega (arith, within))
 
 -- an edge is before or after 2 as its head's colour is 1 or 2
 colour_of-trap_edge : (edge : ℕ) → edge < 5 → ((edge < 2) × (head_colour trap edge ≡ 1)) ⊎ ((1 < edge) × (head_colour trap edge ≡ 2))
@@ -185,6 +209,13 @@ not_reached (at_head is) = not_a_head is
 
 child_without_its_tail : IsColourful trap (4 ∷ []) → ⊥
 child_without_its_tail colourful = not_reached (colourful.tails 0 0 (omega arith))
+
+-- neither is one edge twice, or one that the graph does not have
+one_edge_twice : IsColourful trap (1 ∷ 1 ∷ []) → ⊥
+one_edge_twice colourful = colourful.one_of_a_colour 0 1 0 (omega arith) (omega arith) refl
+
+no_edge_of_the_graph : IsColourful trap (5 ∷ []) → ⊥
+no_edge_of_the_graph colourful = absurd (omega (arith, colourful.in_range 0 0 (omega arith)))
 
 -- no colourful list scores more than 7: after r to a no edge from b is there
 trapped : Contains {X = ℕ} (1 ∷ 3 ∷ []) 2 → ⊥
