@@ -1,5 +1,6 @@
 -- Of all definitions: worked examples, computed.
-use Rattle.std.proofs.Common.{◌≡◌, ℕ, zero, suc, ℤ, pos, negsuc, Bool, List, [], ◌∷◌, Option, Some, None, true, false, codes, refl, arith, map}
+use Rattle.std.proofs.Common.{◌≡◌, ℕ, zero, suc, ℤ, pos, negsuc, Bool, List, [], ◌∷◌, Option, Some, None, true, false}
+use Rattle.std.proofs.Common.{codes, refl, arith, map}
 use Rattle.std.specs.Prelude.{replicate}
 use Rattle.std.specs.List.{filter}
 use Rattle.std.specs.List.Sorted.{IsSorted}
@@ -102,7 +103,8 @@ fit_of_negative : fit_of (spectrum (Some glucose_mz) (once_negative ∷ [])) dep
 fit_of_negative = refl
 
 -- from the least neutral mass that is looked at to the greatest; the charge is looked at first
-fit_of_precursors : map (λ mz. fit_of (spectrum (Some mz) []) choice) (0 ∷ 10072764 ∷ 10072765 ∷ 20010072764 ∷ 20010072765 ∷ [])
+fit_of_precursors : map (λ mz. fit_of (spectrum (Some mz) []) choice)
+    (0 ∷ 10072764 ∷ 10072765 ∷ 20010072764 ∷ 20010072765 ∷ [])
     ≡ Range 0 ∷ Range 10072764 ∷ Usable 10072765 ∷ Usable 20010072764 ∷ Range 20010072765 ∷ []
 fit_of_precursors = refl
 
@@ -123,11 +125,13 @@ greatest_first = refl
 intervals_meet : chosen_of (peak 1000000000 5 4 ∷ peak 1000020000 5 5 ∷ []) ≡ peak 1000000000 5 4 ∷ []
 intervals_meet = refl
 
-intervals_apart : chosen_of (peak 1000000000 5 4 ∷ peak 1000021000 5 5 ∷ []) ≡ peak 1000000000 5 4 ∷ peak 1000021000 5 5 ∷ []
+intervals_apart : chosen_of (peak 1000000000 5 4 ∷ peak 1000021000 5 5 ∷ []) ≡ peak 1000000000 5 4
+    ∷ peak 1000021000 5 5 ∷ []
 intervals_apart = refl
 
 -- the interval of a peak may not reach the precursor's
-near_the_precursor : chosen_of (peak glucose_mz 9 4 ∷ peak 1900000000 9 7 ∷ peak 1810670787 8 5 ∷ peak 1810670786 7 6 ∷ [])
+near_the_precursor : chosen_of
+    (peak glucose_mz 9 4 ∷ peak 1900000000 9 7 ∷ peak 1810670787 8 5 ∷ peak 1810670786 7 6 ∷ [])
     ≡ peak 1810670786 7 6 ∷ []
 near_the_precursor = refl
 
@@ -157,8 +161,10 @@ two_in_order (suc place) none from below = absurd (omega arith)
 one_falls : (one : PeakValue) → IsSorted falling_cmp (one ∷ [])
 one_falls one place none from below = absurd (omega arith)
 
-selected_where_intervals_meet : Selected choice 1810707000 (peak 1000000000 5 4 ∷ peak 1000020000 5 5 ∷ []) (peak 1000000000 5 4 ∷ [])
+selected_where_intervals_meet : Selected choice 1810707000 (peak 1000000000 5 4 ∷ peak 1000020000 5 5 ∷ [])
+    (peak 1000000000 5 4 ∷ [])
 selected_where_intervals_meet =
-    selected_from_chosen choice 1810707000 (peak 1000000000 5 4 ∷ peak 1000020000 5 5 ∷ []) (peak 1000000000 5 4 ∷ peak 1000020000 5 5 ∷ []) (peak 1000000000 5 4 ∷ [])
+    selected_from_chosen choice 1810707000 (peak 1000000000 5 4 ∷ peak 1000020000 5 5 ∷ [])
+    (peak 1000000000 5 4 ∷ peak 1000020000 5 5 ∷ []) (peak 1000000000 5 4 ∷ [])
     (IsPermutation-refl (peak 1000000000 5 4 ∷ peak 1000020000 5 5 ∷ [])) two_in_order
     (IsPermutation-refl (peak 1000000000 5 4 ∷ [])) (one_falls (peak 1000000000 5 4))

@@ -1,6 +1,7 @@
 -- Of all definitions: worked examples, computed: a graph with a trap, where the heaviest edge from the root is not in
 -- the best tree, and the root alone.
-use Rattle.std.proofs.Common.{◌≡◌, ◌≢◌, ◌+◌, ◌<◌, ◌≤◌, ◌↔◌, ◌⊎◌, inl, inr, ℕ, zero, suc, ℤ, pos, negsuc, ◌+ℤ◌, ◌≤ℤ◌, true, false, List, [], ◌∷◌, refl, arith, sym, ◌∙◌, subst}
+use Rattle.std.proofs.Common.{◌≡◌, ◌≢◌, ◌+◌, ◌<◌, ◌≤◌, ◌↔◌, ◌⊎◌, inl, inr, ℕ, zero, suc, ℤ, pos, negsuc, ◌+ℤ◌, ◌≤ℤ◌}
+use Rattle.std.proofs.Common.{true, false, List, [], ◌∷◌, refl, arith, sym, ◌∙◌, subst}
 use Rattle.std.proofs.lemmas.Int.{ints}
 use Rattle.std.specs.List.{All, AllPairs, Contains}
 use Rattle.colour_graph.specs.declared.edge.Edge.{Edge}
@@ -20,15 +21,19 @@ abbrev trap : Graph
 trap = record {
   root_score = pos 0;
   colours = 0 ∷ 1 ∷ 1 ∷ 2 ∷ [];
-  edges = joining 0 1 (pos 5) ∷ joining 0 2 (pos 4) ∷ joining 0 3 (pos 1) ∷ joining 1 3 (negsuc 0) ∷ joining 2 3 (pos 3) ∷ [];
+  edges =
+      joining 0 1 (pos 5) ∷ joining 0 2 (pos 4) ∷ joining 0 3 (pos 1) ∷ joining 1 3 (negsuc 0) ∷ joining 2 3 (pos 3)
+      ∷ [];
 }
 
 abbrev alone : Graph
 alone = root_alone (pos 4)
 
 -- the graphs as they are built
-trap-built : with_edge (with_edge (with_edge (with_edge (with_edge (with_vertex (with_vertex (with_vertex (root_alone (pos 0)) 1) 1) 2)
-    (joining 0 1 (pos 5))) (joining 0 2 (pos 4))) (joining 0 3 (pos 1))) (joining 1 3 (negsuc 0))) (joining 2 3 (pos 3)) ≡ trap
+trap-built : with_edge (with_edge
+    (with_edge (with_edge (with_edge (with_vertex (with_vertex (with_vertex (root_alone (pos 0)) 1) 1) 2)
+    (joining 0 1 (pos 5))) (joining 0 2 (pos 4))) (joining 0 3 (pos 1))) (joining 1 3 (negsuc 0)))
+    (joining 2 3 (pos 3)) ≡ trap
 trap-built = refl
 
 colour_count-trap : colour_count trap ≡ 2
@@ -93,17 +98,23 @@ HasColours-trap = record {
   no_gap = no_gap-trap;
 }
 
-IsEdge-trap : (tail head : ℕ) (weight : ℤ) → tail < 4 → head < 4 → colour_of trap tail < colour_of trap head → negsuc 99999 ≤ℤ weight → weight ≤ℤ pos 100000
+IsEdge-trap : (tail head : ℕ) (weight : ℤ) → tail < 4 → head < 4 → colour_of trap tail < colour_of trap head
+    → negsuc 99999 ≤ℤ weight → weight ≤ℤ pos 100000
     → IsEdge trap (joining tail head weight)
 IsEdge-trap tail head weight is_tail is_head rising not_below not_above =
     record { tail = is_tail; head = is_head; rising = rising; weight = near weight not_below not_above }
 
 edges-trap : All (IsEdge trap) trap.edges
-edges-trap zero d within = IsEdge-trap 0 1 (pos 5) (omega arith) (omega arith) (omega arith) (omega (arith, ints)) (omega (arith, ints))
-edges-trap (suc zero) d within = IsEdge-trap 0 2 (pos 4) (omega arith) (omega arith) (omega arith) (omega (arith, ints)) (omega (arith, ints))
-edges-trap (suc (suc zero)) d within = IsEdge-trap 0 3 (pos 1) (omega arith) (omega arith) (omega arith) (omega (arith, ints)) (omega (arith, ints))
-edges-trap (suc (suc (suc zero))) d within = IsEdge-trap 1 3 (negsuc 0) (omega arith) (omega arith) (omega arith) (omega (arith, ints)) (omega (arith, ints))
-edges-trap (suc (suc (suc (suc zero)))) d within = IsEdge-trap 2 3 (pos 3) (omega arith) (omega arith) (omega arith) (omega (arith, ints)) (omega (arith, ints))
+edges-trap zero d within =
+    IsEdge-trap 0 1 (pos 5) (omega arith) (omega arith) (omega arith) (omega (arith, ints)) (omega (arith, ints))
+edges-trap (suc zero) d within =
+    IsEdge-trap 0 2 (pos 4) (omega arith) (omega arith) (omega arith) (omega (arith, ints)) (omega (arith, ints))
+edges-trap (suc (suc zero)) d within =
+    IsEdge-trap 0 3 (pos 1) (omega arith) (omega arith) (omega arith) (omega (arith, ints)) (omega (arith, ints))
+edges-trap (suc (suc (suc zero))) d within =
+    IsEdge-trap 1 3 (negsuc 0) (omega arith) (omega arith) (omega arith) (omega (arith, ints)) (omega (arith, ints))
+edges-trap (suc (suc (suc (suc zero)))) d within =
+    IsEdge-trap 2 3 (pos 3) (omega arith) (omega arith) (omega arith) (omega (arith, ints)) (omega (arith, ints))
 edges-trap (suc (suc (suc (suc (suc edge))))) d within = absurd (omega arith)
 
 -- lists of edges of the trap graph, and their scores
@@ -151,7 +162,9 @@ cap_of-fewer = refl
 
 -- no edge goes to colour 2 of this graph: both places are behind the edge into colour 1
 abbrev gapped : Graph
-gapped = with_edge (with_edge (with_vertex (with_vertex (with_vertex (root_alone (pos 0)) 1) 2) 3) (joining 0 1 (pos 1))) (joining 0 3 (pos 1))
+gapped =
+    with_edge (with_edge (with_vertex (with_vertex (with_vertex (root_alone (pos 0)) 1) 2) 3) (joining 0 1 (pos 1)))
+    (joining 0 3 (pos 1))
 
 AreInto-gapped : AreInto gapped 2 1 1
 AreInto-gapped = record { in_order = omega arith; within = omega arith; members = members; smaller = smaller }
@@ -167,7 +180,8 @@ AreInto-gapped = record { in_order = omega arith; within = omega arith; members 
     smaller (suc (suc edge)) within = absurd (omega (arith, within))
 
 -- an edge is before or after 2 as its head's colour is 1 or 2
-colour_of-trap_edge : (edge : ℕ) → edge < 5 → ((edge < 2) × (head_colour trap edge ≡ 1)) ⊎ ((1 < edge) × (head_colour trap edge ≡ 2))
+colour_of-trap_edge : (edge : ℕ) → edge < 5
+    → ((edge < 2) × (head_colour trap edge ≡ 1)) ⊎ ((1 < edge) × (head_colour trap edge ≡ 2))
 colour_of-trap_edge zero within = inl (omega arith, refl)
 colour_of-trap_edge (suc zero) within = inl (omega arith, refl)
 colour_of-trap_edge (suc (suc zero)) within = inr (omega arith, refl)
@@ -236,7 +250,8 @@ not_from_b_back : IsReached trap (4 ∷ 0 ∷ []) 2 → ⊥
 not_from_b_back (at_root is) = absurd (omega (arith, is))
 not_from_b_back (at_head is) = trapped_back is
 
-pair : (one other : ℕ) → one < 2 → 1 < other → other < 5 → (one ≡ 0 → other ≡ 4 → ⊥) → ((edge_at trap one).weight +ℤ (edge_at trap other).weight) ≤ℤ pos 7
+pair : (one other : ℕ) → one < 2 → 1 < other → other < 5 → (one ≡ 0 → other ≡ 4 → ⊥)
+    → ((edge_at trap one).weight +ℤ (edge_at trap other).weight) ≤ℤ pos 7
 pair zero (suc (suc zero)) is_one after within no_trap = omega (arith, ints)
 pair zero (suc (suc (suc zero))) is_one after within no_trap = omega (arith, ints)
 pair zero (suc (suc (suc (suc zero)))) is_one after within no_trap = absurd (no_trap refl refl)
@@ -268,20 +283,32 @@ two_edges_back weight other light = omega (arith, ints)
 abbrev OneOrTwo : ℕ → Type 0
 OneOrTwo edge = ((edge < 2) × (head_colour trap edge ≡ 1)) ⊎ ((1 < edge) × (head_colour trap edge ≡ 2))
 
-of_two : (one other : ℕ) → one < 5 → other < 5 → head_colour trap one ≢ head_colour trap other → IsReached trap (one ∷ other ∷ []) (edge_at trap one).tail
-    → IsReached trap (one ∷ other ∷ []) (edge_at trap other).tail → OneOrTwo one → OneOrTwo other → score_of trap (one ∷ other ∷ []) ≤ℤ pos 7
-of_two one other is_one is_other apart tail other_tail (inl first) (inl second) = absurd (apart (first.1 ∙ sym second.1))
-of_two one other is_one is_other apart tail other_tail (inr first) (inr second) = absurd (apart (first.1 ∙ sym second.1))
-of_two one other is_one is_other apart tail other_tail (inl first) (inr second) = two_edges (edge_at trap one).weight (edge_at trap other).weight (pair one other first.0 second.0 is_other no_trap)
+of_two : (one other : ℕ) → one < 5 → other < 5 → head_colour trap one ≢ head_colour trap other
+    → IsReached trap (one ∷ other ∷ []) (edge_at trap one).tail
+    → IsReached trap (one ∷ other ∷ []) (edge_at trap other).tail → OneOrTwo one → OneOrTwo other
+    → score_of trap (one ∷ other ∷ []) ≤ℤ pos 7
+of_two one other is_one is_other apart tail other_tail (inl first) (inl second) =
+    absurd (apart (first.1 ∙ sym second.1))
+of_two one other is_one is_other apart tail other_tail (inr first) (inr second) =
+    absurd (apart (first.1 ∙ sym second.1))
+of_two one other is_one is_other apart tail other_tail (inl first) (inr second) =
+    two_edges (edge_at trap one).weight (edge_at trap other).weight (pair one other first.0 second.0 is_other no_trap)
   where
     no_trap : one ≡ 0 → other ≡ 4 → ⊥
-    no_trap is_a is_b = not_from_b (subst (λ edge. IsReached trap (edge ∷ 4 ∷ []) 2) is_a (subst (λ edge. IsReached trap (one ∷ edge ∷ []) (edge_at trap edge).tail) is_b other_tail))
-of_two one other is_one is_other apart tail other_tail (inr first) (inl second) = two_edges_back (edge_at trap one).weight (edge_at trap other).weight (pair other one second.0 first.0 is_one no_trap)
+    no_trap is_a is_b =
+        not_from_b (subst (λ edge. IsReached trap (edge ∷ 4 ∷ []) 2) is_a
+        (subst (λ edge. IsReached trap (one ∷ edge ∷ []) (edge_at trap edge).tail) is_b other_tail))
+of_two one other is_one is_other apart tail other_tail (inr first) (inl second) =
+    two_edges_back (edge_at trap one).weight (edge_at trap other).weight
+    (pair other one second.0 first.0 is_one no_trap)
   where
     no_trap : other ≡ 0 → one ≡ 4 → ⊥
-    no_trap is_a is_b = not_from_b_back (subst (λ edge. IsReached trap (4 ∷ edge ∷ []) 2) is_a (subst (λ edge. IsReached trap (edge ∷ other ∷ []) (edge_at trap edge).tail) is_b tail))
+    no_trap is_a is_b =
+        not_from_b_back (subst (λ edge. IsReached trap (4 ∷ edge ∷ []) 2) is_a
+        (subst (λ edge. IsReached trap (edge ∷ other ∷ []) (edge_at trap edge).tail) is_b tail))
 
-not_three : (one other third : ℕ) → head_colour trap one ≢ head_colour trap other → head_colour trap one ≢ head_colour trap third → head_colour trap other ≢ head_colour trap third
+not_three : (one other third : ℕ) → head_colour trap one ≢ head_colour trap other
+    → head_colour trap one ≢ head_colour trap third → head_colour trap other ≢ head_colour trap third
     → OneOrTwo one → OneOrTwo other → OneOrTwo third → ⊥
 not_three one other third a b c (inl first) (inl second) last = absurd (a (first.1 ∙ sym second.1))
 not_three one other third a b c (inr first) (inr second) last = absurd (a (first.1 ∙ sym second.1))
@@ -296,19 +323,23 @@ at_most_seven (one ∷ []) colourful within = one_edge _ (single one (colourful.
 at_most_seven (one ∷ other ∷ []) colourful within =
     let is_one : one < 5 = colourful.in_range 0 0 (omega arith) in
     let is_other : other < 5 = colourful.in_range 1 0 (omega arith) in
-    of_two one other is_one is_other (colourful.one_of_a_colour 0 1 0 (omega arith) (omega arith)) (colourful.tails 0 0 (omega arith)) (colourful.tails 1 0 (omega arith))
+    of_two one other is_one is_other (colourful.one_of_a_colour 0 1 0 (omega arith) (omega arith))
+    (colourful.tails 0 0 (omega arith)) (colourful.tails 1 0 (omega arith))
     (colour_of-trap_edge one is_one) (colour_of-trap_edge other is_other)
 at_most_seven (one ∷ other ∷ third ∷ rest) colourful within =
     let is_one : one < 5 = colourful.in_range 0 0 (omega arith) in
     let is_other : other < 5 = colourful.in_range 1 0 (omega arith) in
     let is_third : third < 5 = colourful.in_range 2 0 (omega arith) in
-    absurd (not_three one other third (colourful.one_of_a_colour 0 1 0 (omega arith) (omega arith)) (colourful.one_of_a_colour 0 2 0 (omega arith) (omega arith))
-    (colourful.one_of_a_colour 1 2 0 (omega arith) (omega arith)) (colour_of-trap_edge one is_one) (colour_of-trap_edge other is_other) (colour_of-trap_edge third is_third))
+    absurd (not_three one other third (colourful.one_of_a_colour 0 1 0 (omega arith) (omega arith))
+    (colourful.one_of_a_colour 0 2 0 (omega arith) (omega arith))
+    (colourful.one_of_a_colour 1 2 0 (omega arith) (omega arith)) (colour_of-trap_edge one is_one)
+    (colour_of-trap_edge other is_other) (colour_of-trap_edge third is_third))
 
 IsBest-trap : IsBest trap (1 ∷ 4 ∷ [])
 IsBest-trap = record { colourful = IsColourful-best; greatest = at_most_seven }
 
-both_colours_taken : (edge : ℕ) → All (λ taken. head_colour trap taken ≢ head_colour trap edge) (1 ∷ 4 ∷ []) → OneOrTwo edge → ⊥
+both_colours_taken : (edge : ℕ) → All (λ taken. head_colour trap taken ≢ head_colour trap edge) (1 ∷ 4 ∷ [])
+    → OneOrTwo edge → ⊥
 both_colours_taken edge free (inl is) = free 0 0 (omega arith) (sym is.1)
 both_colours_taken edge free (inr is) = free 1 0 (omega arith) (sym is.1)
 
@@ -317,7 +348,8 @@ IsMaximal-best edge within reached free = absurd (both_colours_taken edge free (
 
 -- no edge at all is not maximal: r to a gains 5
 not_maximal : IsMaximal trap [] → ⊥
-not_maximal maximal = absurd (omega (arith, ints, maximal 0 (omega arith) (at_root refl) (λ place d within. absurd (omega arith))))
+not_maximal maximal =
+    absurd (omega (arith, ints, maximal 0 (omega arith) (at_root refl) (λ place d within. absurd (omega arith))))
 
 -- the root alone
 IsColourful-alone : IsColourful alone []

@@ -1,10 +1,12 @@
 -- Of all definitions: worked examples, computed.
-use Rattle.std.specs.Prelude.{◌≡◌, ℕ, length, pos, negsuc, List, [], ◌∷◌, ◌++◌, true, false, codes, replicate, refl, Ok, Err}
+use Rattle.std.specs.Prelude.{◌≡◌, ℕ, length, pos, negsuc, List, [], ◌∷◌, ◌++◌, true, false, codes, replicate, refl, Ok}
+use Rattle.std.specs.Prelude.{Err}
 use Rattle.std.specs.Prelude.{None, Result, Some, map, slice_set}
 use Rattle.std.specs.declared.cmp.Ordering.TheVariants.{Equal, Greater, Less}
 use Rattle.std.specs.Fmt.{digits}
 use Rattle.element_table.specs.Elements.{place_of}
-use Rattle.element_table.specs.Formula.{empty_formula, formula_cmp, is_proper_part, is_within, loss_of, mass_of, union_of}
+use Rattle.element_table.specs.Formula.{empty_formula, formula_cmp, is_proper_part, is_within, loss_of, mass_of}
+use Rattle.element_table.specs.Formula.{union_of}
 use Rattle.element_table.specs.FormulaReading.{formula_of}
 use Rattle.element_table.specs.FormulaText.{formula_text}
 use Rattle.element_table.specs.declared.reading.FormulaFault.{FormulaFault}
@@ -122,7 +124,8 @@ unfolding listed_of
 list_past_its_end = refl
 
 -- all lists of two counts in formula order, in a wide window
-list_in_order : listed_of (around 0 2000000000) (hcno 1 1 0 0) [] ≡ hcno 0 0 0 0 ∷ hcno 0 1 0 0 ∷ hcno 1 0 0 0 ∷ hcno 1 1 0 0 ∷ []
+list_in_order : listed_of (around 0 2000000000) (hcno 1 1 0 0) [] ≡ hcno 0 0 0 0 ∷ hcno 0 1 0 0 ∷ hcno 1 0 0 0
+    ∷ hcno 1 1 0 0 ∷ []
 unfolding listed_of
 list_in_order = refl
 
@@ -219,11 +222,13 @@ too_many_are_refused = refl
 places : map place_of (codes "H" ∷ codes "Cl" ∷ codes "Si" ∷ []) ≡ Some 0 ∷ Some 7 ∷ Some 10 ∷ []
 places = refl
 
-no_places : map place_of ([] ∷ codes "h" ∷ codes "CL" ∷ codes "Na" ∷ codes "K" ∷ codes "Sii" ∷ codes "-" ∷ []) ≡ replicate 7 None
+no_places : map place_of ([] ∷ codes "h" ∷ codes "CL" ∷ codes "Na" ∷ codes "K" ∷ codes "Sii" ∷ codes "-" ∷ [])
+    ≡ replicate 7 None
 no_places = refl
 
 -- twice the rings and double bonds of nothing, methane, CH5, CH6, benzene and H3Cl
-rdbe2_of-others : map rdbe2_of (empty_formula ∷ hcno 4 1 0 0 ∷ hcno 5 1 0 0 ∷ hcno 6 1 0 0 ∷ hcno 6 6 0 0 ∷ with (hcno 3 0 0 0) 7 1 ∷ [])
+rdbe2_of-others : map rdbe2_of
+    (empty_formula ∷ hcno 4 1 0 0 ∷ hcno 5 1 0 0 ∷ hcno 6 1 0 0 ∷ hcno 6 6 0 0 ∷ with (hcno 3 0 0 0) 7 1 ∷ [])
     ≡ pos 2 ∷ pos 0 ∷ negsuc 0 ∷ negsuc 1 ∷ pos 8 ∷ negsuc 1 ∷ []
 rdbe2_of-others = refl
 
@@ -248,18 +253,21 @@ formula_cmp-same = refl
 abbrev odd_rule : Rule
 odd_rule = record { coefficients = bond_coefficients; constant = pos 2; parity = odd }
 
-even_electrons : map (λ counts. passes (neutral_rule_of ∷ []) counts) (glucose ∷ hcno 5 1 0 0 ∷ hcno 6 1 0 0 ∷ hcno 3 1 0 0 ∷ [])
+even_electrons : map (λ counts. passes (neutral_rule_of ∷ []) counts)
+    (glucose ∷ hcno 5 1 0 0 ∷ hcno 6 1 0 0 ∷ hcno 3 1 0 0 ∷ [])
     ≡ true ∷ false ∷ false ∷ false ∷ []
 even_electrons = refl
 
-odd_electrons : map (λ counts. passes (odd_rule ∷ []) counts) (hcno 3 1 0 0 ∷ glucose ∷ hcno 7 1 0 0 ∷ []) ≡ true ∷ false ∷ false ∷ []
+odd_electrons : map (λ counts. passes (odd_rule ∷ []) counts) (hcno 3 1 0 0 ∷ glucose ∷ hcno 7 1 0 0 ∷ []) ≡ true
+    ∷ false ∷ false ∷ []
 odd_electrons = refl
 
 -- the rule that there are six atoms of carbon at most, beside that of a candidate
 abbrev six_carbons : Rule
 six_carbons = record { coefficients = (pos 0 ∷ negsuc 0 ∷ []) ++ replicate 14 (pos 0); constant = pos 6; parity = any }
 
-every_rule : map (λ counts. passes (neutral_rule_of ∷ six_carbons ∷ []) counts) (glucose ∷ hcno 14 7 0 7 ∷ hcno 13 6 0 6 ∷ [])
+every_rule : map (λ counts. passes (neutral_rule_of ∷ six_carbons ∷ []) counts)
+    (glucose ∷ hcno 14 7 0 7 ∷ hcno 13 6 0 6 ∷ [])
     ≡ true ∷ false ∷ false ∷ []
 every_rule = refl
 

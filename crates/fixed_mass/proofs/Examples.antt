@@ -103,7 +103,8 @@ unfolding is_exponent is_numeral
 no_numerals = refl
 
 -- a numeral may be too long, or stand for too much
-too_long_or_too_great : list_all is_numeral (codes "00000000000000000000000000000000000000001" ∷ codes "1e12" ∷ []) ≡ true
+too_long_or_too_great : list_all is_numeral (codes "00000000000000000000000000000000000000001" ∷ codes "1e12" ∷ [])
+    ≡ true
 unfolding is_exponent is_numeral
 too_long_or_too_great = refl
 

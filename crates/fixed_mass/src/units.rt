@@ -1,12 +1,14 @@
 //! Numerals read to whole units.
-ghost use Rattle.std.specs.Prelude.{◌≡◌, ◌≤◌, ◌<◌, ◌+◌, ◌-◌, ◌*◌, ◌/◌, ◌^◌, ◌++◌, ◌↔◌, ℕ, List, Err, IfOk, IfSome, IsNone, IsTrue, length, take, true, false};
+ghost use Rattle.std.specs.Prelude.{◌≡◌, ◌≤◌, ◌<◌, ◌+◌, ◌-◌, ◌*◌, ◌/◌, ◌^◌, ◌++◌, ◌↔◌, ℕ, List, Err, IfOk, IfSome};
+ghost use Rattle.std.specs.Prelude.{IsNone, IsTrue, length, take, true, false};
 ghost use Rattle.std.specs.Result.{result_ok};
 ghost use Rattle.std.specs.Str.{all_ascii_digits};
 ghost use Rattle.std.specs.Str.Parse.{digits_value, digits_value_after};
 ghost use Rattle.fixed_mass.specs.Numeral.{is_numeral};
 ghost use Rattle.fixed_mass.specs.inside.Tenths.{leading_of, rounded_of, tenths_of};
 ghost use Rattle.fixed_mass.specs.Numeral.{is_digits, number_of_digits};
-ghost use Rattle.fixed_mass.specs.Units.{greatest_numeral_length, greatest_scale, greatest_units, readable_units, units_of};
+ghost use Rattle.fixed_mass.specs.Units.{greatest_numeral_length, greatest_scale, greatest_units, readable_units};
+ghost use Rattle.fixed_mass.specs.Units.{units_of};
 
 use crate::numeral::{Numeral, is_all_digits};
 use crate::powers::POWERS_OF_TEN;

@@ -84,7 +84,8 @@ caffeine_graph = refl
 
 -- a list of one formula of so many C
 abbrev carbon_list : ℕ → FormulaListValue
-carbon_list carbons = record { mz = 120000000 * carbons + 10072764; intensity = 1000000; formulas = formula 0 carbons 0 0 ∷ [] }
+carbon_list carbons =
+    record { mz = 120000000 * carbons + 10072764; intensity = 1000000; formulas = formula 0 carbons 0 0 ∷ [] }
 
 -- the lists of so many C and of each number below
 abbrev ladder : ℕ → List FormulaListValue

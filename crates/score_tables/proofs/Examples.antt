@@ -57,7 +57,8 @@ implausible_score_so : map (λ entry. loss_score_of default_scores entry.0) defa
 implausible_score_so = refl
 
 -- losses in no table: H, CH2 and C2H6
-others_score_so : map (loss_score_of default_scores) (atoms 1 0 0 0 0 0 0 0 ∷ atoms 2 1 0 0 0 0 0 0 ∷ atoms 6 2 0 0 0 0 0 0 ∷ [])
+others_score_so : map (loss_score_of default_scores)
+    (atoms 1 0 0 0 0 0 0 0 ∷ atoms 2 1 0 0 0 0 0 0 ∷ atoms 6 2 0 0 0 0 0 0 ∷ [])
     ≡ neg_ℤ (pos 12) ∷ pos 0 ∷ neg_ℤ (pos 1) ∷ []
 others_score_so = refl
 
