@@ -7,8 +7,6 @@ mod fitting;
 mod laws;
 mod outcome;
 mod selection;
-#[cfg(test)]
-mod tests;
 
 pub use adduct::{Adduct, by_name, neutral};
 pub use choice::{Choice, half_width, window};

@@ -8,10 +8,13 @@ use Rattle.colour_graph.specs.Graph.{Graph, colour_count, head_colour}
 use Rattle.colour_graph.specs.inside.Index.{CanIndex, EndsAt, IsIndex, head_colour_at}
 
 -- all edges before a place go to small colours, and the one there, if any, to a greater one
-pub EndsAt-found : (colours : List ℕ) (edges : List Edge) (colour place : ℕ) → CanIndex colours edges → place ≤ length edges
-    → ((edge : ℕ) → edge < place → head_colour_at colours edges edge ≤ colour) → (place < length edges → colour < head_colour_at colours edges place)
+pub EndsAt-found : (colours : List ℕ) (edges : List Edge) (colour place : ℕ) → CanIndex colours edges
+    → place ≤ length edges
+    → ((edge : ℕ) → edge < place → head_colour_at colours edges edge ≤ colour)
+    → (place < length edges → colour < head_colour_at colours edges place)
     → EndsAt colours edges colour place
-EndsAt-found colours edges colour place can within before here = record { within = within; splits = λ edge at. (before edge, back edge at) }
+EndsAt-found colours edges colour place can within before here =
+    record { within = within; splits = λ edge at. (before edge, back edge at) }
   where
     back : (edge : ℕ) → edge < length edges → head_colour_at colours edges edge ≤ colour → edge < place
     back edge at small = choose (cases_lt edge place)
@@ -23,7 +26,8 @@ EndsAt-found colours edges colour place can within before here = record { within
             let rises = can.in_order place edge later at in
             absurd (omega (arith, great, rises, small))
 
-pub AreInto-ends : (graph : Graph) (colour smaller first past : ℕ) → smaller + 1 ≡ colour → EndsAt graph.colours graph.edges smaller first
+pub AreInto-ends : (graph : Graph) (colour smaller first past : ℕ) → smaller + 1 ≡ colour
+    → EndsAt graph.colours graph.edges smaller first
     → EndsAt graph.colours graph.edges colour past → AreInto graph colour first past
 AreInto-ends graph colour smaller first past next begins ends = record {
   in_order = in_order;
@@ -47,9 +51,11 @@ AreInto-ends graph colour smaller first past next begins ends = record {
     forth : (edge : ℕ) → edge < length graph.edges → (first ≤ edge) × (edge < past) → head_colour graph edge ≡ colour
     forth edge at is = choose (cases_lt smaller (head_colour graph edge))
       where
-        choose : (smaller < head_colour graph edge) ⊎ (head_colour graph edge ≤ smaller) → head_colour graph edge ≡ colour
+        choose : (smaller < head_colour graph edge) ⊎ (head_colour graph edge ≤ smaller)
+            → head_colour graph edge ≡ colour
         choose (inl above) = let below = (ends.splits edge at).0 is.1 in omega (arith, below)
-        choose (inr small) = let before = (begins.splits edge at).1 small in let from = is.0 in absurd (omega (arith, before, from))
+        choose (inr small) =
+            let before = (begins.splits edge at).1 small in let from = is.0 in absurd (omega (arith, before, from))
 
     back : (edge : ℕ) → edge < length graph.edges → head_colour graph edge ≡ colour → (first ≤ edge) × (edge < past)
     back edge at is = choose (cases_lt edge first)
@@ -64,9 +70,13 @@ AreInto-ends graph colour smaller first past next begins ends = record {
     less_back : (edge : ℕ) → edge < length graph.edges → head_colour graph edge < colour → edge < first
     less_back edge at small = (begins.splits edge at).1 (omega arith)
 
-pub AreInto-index : (graph : Graph) (ends : List ℕ) (colour first past : ℕ) → IsIndex graph.colours graph.edges ends → colour_count graph < length ends → 0 < colour
-    → colour ≤ colour_count graph → first ≡ get_or ends (colour - 1) first → past ≡ get_or ends colour past → AreInto graph colour first past
+pub AreInto-index : (graph : Graph) (ends : List ℕ) (colour first past : ℕ) → IsIndex graph.colours graph.edges ends
+    → colour_count graph < length ends → 0 < colour
+    → colour ≤ colour_count graph → first ≡ get_or ends (colour - 1) first → past ≡ get_or ends colour past
+    → AreInto graph colour first past
 AreInto-index graph ends colour first past is long some counted first_is past_is =
-    let first_place : get_or ends (colour - 1) 0 ≡ first = get_or_default ends (colour - 1) 0 first (omega arith) ∙ sym first_is in
+    let first_place : get_or ends (colour - 1) 0 ≡ first =
+    get_or_default ends (colour - 1) 0 first (omega arith) ∙ sym first_is in
     let past_place : get_or ends colour 0 ≡ past = get_or_default ends colour 0 past (omega arith) ∙ sym past_is in
-    AreInto-ends graph colour (colour - 1) first past (omega arith) (rw first_place at (is (colour - 1) (omega arith))) (rw past_place at (is colour (omega arith)))
+    AreInto-ends graph colour (colour - 1) first past (omega arith) (rw first_place at (is (colour - 1) (omega arith)))
+    (rw past_place at (is colour (omega arith)))

@@ -30,7 +30,8 @@ place-le_rank graph is (suc k) within =
     let tail = (is.edges k (record { tail = 0; head = 0; weight = pos 0 }) at).tail in
     let few = is.colours.few in
     one_more k (rank_of (edge_at graph k)) (rank_of (edge_at graph (suc k))) (place-le_rank graph is k at)
-    (rises (edge_at graph k) (edge_at graph (suc k)) (omega (arith, tail, few)) (is.in_order k (suc k) (record { tail = 0; head = 0; weight = pos 0 }) (omega arith) within))
+    (rises (edge_at graph k) (edge_at graph (suc k)) (omega (arith, tail, few))
+    (is.in_order k (suc k) (record { tail = 0; head = 0; weight = pos 0 }) (omega arith) within))
 
 pub edges-few : (graph : Graph) → IsGraph graph → length graph.edges ≤ 16777216
 edges-few graph is = choose (cases_lt 16777216 (length graph.edges))
@@ -46,31 +47,37 @@ edges-few graph is = choose (cases_lt 16777216 (length graph.edges))
         absurd (omega (arith, tail, head, low, few))
 
 -- a colour is at most its vertex's place
-pub colour-le_vertex : (graph : Graph) → HasColours graph.colours → (vertex : ℕ) → vertex < length graph.colours → colour_of graph vertex ≤ vertex
+pub colour-le_vertex : (graph : Graph) → HasColours graph.colours → (vertex : ℕ) → vertex < length graph.colours
+    → colour_of graph vertex ≤ vertex
 colour-le_vertex graph has zero within = omega (arith, has.root)
 colour-le_vertex graph has (suc vertex) within =
     let here : vertex < length graph.colours = omega arith in
     let before = colour-le_vertex graph has vertex here in
     let more : vertex + 1 ≡ suc vertex = omega arith in
-    let gap : get_or graph.colours (suc vertex) 0 ≤ get_or graph.colours vertex 0 + 1 = rw more at (has.no_gap vertex (omega arith)) in
+    let gap : get_or graph.colours (suc vertex) 0 ≤ get_or graph.colours vertex 0 + 1 =
+    rw more at (has.no_gap vertex (omega arith)) in
     omega (arith, gap, before)
 
 -- colours in order never fall
-pub colours-rise : (graph : Graph) → HasColours graph.colours → (first later : ℕ) → first ≤ later → later < length graph.colours → colour_of graph first ≤ colour_of graph later
+pub colours-rise : (graph : Graph) → HasColours graph.colours → (first later : ℕ) → first ≤ later
+    → later < length graph.colours → colour_of graph first ≤ colour_of graph later
 colours-rise graph has first later in_order within = choose (cases_lt first later)
   where
     choose : (first < later) ⊎ (later ≤ first) → colour_of graph first ≤ colour_of graph later
     choose (inl before) = has.in_order first later 0 before within
     choose (inr not_before) = let same : first ≡ later = omega arith in rw same (omega arith)
 
-pub colour-le_count : (graph : Graph) → HasColours graph.colours → (vertex : ℕ) → vertex < length graph.colours → colour_of graph vertex ≤ colour_count graph
-colour-le_count graph has vertex within = colours-rise graph has vertex (length graph.colours - 1) (omega arith) (omega arith)
+pub colour-le_count : (graph : Graph) → HasColours graph.colours → (vertex : ℕ) → vertex < length graph.colours
+    → colour_of graph vertex ≤ colour_count graph
+colour-le_count graph has vertex within =
+    colours-rise graph has vertex (length graph.colours - 1) (omega arith) (omega arith)
 
 -- the heads' colours never fall
 pub CanIndex-graph : (graph : Graph) → IsGraph graph → CanIndex graph.colours graph.edges
 CanIndex-graph graph is = record { heads = λ edge d within. (is.edges edge d within).head; in_order = rise }
   where
-    rise : (first later : ℕ) → first ≤ later → later < length graph.edges → head_colour graph first ≤ head_colour graph later
+    rise : (first later : ℕ) → first ≤ later → later < length graph.edges
+        → head_colour graph first ≤ head_colour graph later
     rise first later in_order within = choose (cases_lt first later)
       where
         choose : (first < later) ⊎ (later ≤ first) → head_colour graph first ≤ head_colour graph later

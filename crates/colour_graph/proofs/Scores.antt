@@ -1,5 +1,6 @@
 -- Of score_of: the score of a list of edges, one edge after another.
-use Rattle.std.proofs.Common.{◌≡◌, ◌+◌, ◌*◌, ◌<◌, ◌≤◌, ◌∙◌, ℕ, ℤ, pos, ◌+ℤ◌, ◌≤ℤ◌, List, [], ◌∷◌, ◌++◌, length, get_or, take, ap, arith, rules, to_z, of_z, negsuc, w32, w64}
+use Rattle.std.proofs.Common.{◌≡◌, ◌+◌, ◌*◌, ◌<◌, ◌≤◌, ◌∙◌, ℕ, ℤ, pos, ◌+ℤ◌, ◌≤ℤ◌, List, [], ◌∷◌, ◌++◌, length, get_or}
+use Rattle.std.proofs.Common.{take, ap, arith, rules, to_z, of_z, negsuc, w32, w64}
 use Rattle.std.proofs.lemmas.Int.{ints, to_z-of_z}
 use Rattle.std.proofs.lemmas.List.{map_more}
 use Rattle.colour_graph.specs.Colourful.{total, weights_of, score_of}
@@ -18,11 +19,15 @@ total-push (first ∷ ns) n = ap (λ rest. first +ℤ rest) (total-push ns n) �
 
 -- the score of the first edges, and of one more
 pub score_of-more : (graph : Graph) (edges : List ℕ) (count : ℕ) → count < length edges
-    → score_of graph (take (count + 1) edges) ≡ score_of graph (take count edges) +ℤ (edge_at graph (get_or edges count 0)).weight
+    → score_of graph (take (count + 1) edges)
+    ≡ score_of graph (take count edges) +ℤ (edge_at graph (get_or edges count 0)).weight
 score_of-more graph edges count within =
-    ap (λ weights. graph.root_score +ℤ total weights) (map_more (λ edge. (edge_at graph edge).weight) edges count 0 within)
-    ∙ ap (λ sum. graph.root_score +ℤ sum) (total-push (weights_of graph (take count edges)) (edge_at graph (get_or edges count 0)).weight)
-    ∙ regrouped graph.root_score (total (weights_of graph (take count edges))) (edge_at graph (get_or edges count 0)).weight
+    ap (λ weights. graph.root_score +ℤ total weights)
+    (map_more (λ edge. (edge_at graph edge).weight) edges count 0 within)
+    ∙ ap (λ sum. graph.root_score +ℤ sum)
+    (total-push (weights_of graph (take count edges)) (edge_at graph (get_or edges count 0)).weight)
+    ∙ regrouped graph.root_score (total (weights_of graph (take count edges)))
+    (edge_at graph (get_or edges count 0)).weight
 
 -- a score so far: the root's and so many weights
 pub record IsNear (score : ℤ) (count : ℕ) : Type 0 where
@@ -30,9 +35,11 @@ pub record IsNear (score : ℤ) (count : ℕ) : Type 0 where
   pub not_above : score ≤ℤ pos (100000 * (count + 1))
 
 pub IsNear-root : (score : ℤ) → IsScore score → IsNear score 0
-IsNear-root score is = record { not_below = omega (arith, ints, is.not_below); not_above = omega (arith, ints, is.not_above) }
+IsNear-root score is =
+    record { not_below = omega (arith, ints, is.not_below); not_above = omega (arith, ints, is.not_above) }
 
-pub IsNear-more : (score weight : ℤ) (count : ℕ) → IsNear score count → IsScore weight → IsNear (score +ℤ weight) (count + 1)
+pub IsNear-more : (score weight : ℤ) (count : ℕ) → IsNear score count → IsScore weight
+    → IsNear (score +ℤ weight) (count + 1)
 IsNear-more score weight count near is = record {
   not_below = omega (arith, ints, near.not_below, is.not_below);
   not_above = omega (arith, ints, near.not_above, is.not_above);
@@ -45,11 +52,13 @@ SFits-near score count near few =
     search rules
 
 -- what the code adds up is the sum
-pub added : (score weight out : ℤ) (count : ℕ) → IsNear score count → IsScore weight → out ≡ weight → SFits w64 out → count < 100000
+pub added : (score weight out : ℤ) (count : ℕ) → IsNear score count → IsScore weight → out ≡ weight → SFits w64 out
+    → count < 100000
     → to_z w64 (of_z w64 (score +ℤ to_z w64 (of_z w64 out))) ≡ score +ℤ weight
 added score weight out count near is same fits few =
     ap (λ n. to_z w64 (of_z w64 (score +ℤ n))) (to_z-of_z w64 out fits ∙ same)
-    ∙ to_z-of_z w64 (score +ℤ weight) (SFits-near (score +ℤ weight) (count + 1) (IsNear-more score weight count near is) (omega arith))
+    ∙ to_z-of_z w64 (score +ℤ weight)
+    (SFits-near (score +ℤ weight) (count + 1) (IsNear-more score weight count near is) (omega arith))
 
 pub SFits-score : (score : ℤ) → IsScore score → SFits w32 score
 SFits-score score is =

@@ -9,8 +9,6 @@ mod edge;
 mod graph;
 mod index;
 mod laws;
-#[cfg(test)]
-mod tests;
 
 pub use allowed::Allowed;
 pub use builder::GraphBuilder;

@@ -1,5 +1,6 @@
 -- Of Listed: members of lists, and lists whose elements each bear a relation to the later ones.
-use Rattle.std.proofs.Common.{◌≡◌, ◌<◌, ◌∙◌, ◌⊎◌, inl, inr, ℕ, zero, suc, List, [], ◌∷◌, ◌++◌, length, map, get_or, Bool, true, false, cond, refl, sym, ap, subst, arith}
+use Rattle.std.proofs.Common.{◌≡◌, ◌<◌, ◌∙◌, ◌⊎◌, inl, inr, ℕ, zero, suc, List, [], ◌∷◌, ◌++◌, length, map, get_or}
+use Rattle.std.proofs.Common.{Bool, true, false, cond, refl, sym, ap, subst, arith}
 use Rattle.std.specs.List.{AllPairs, Contains, filter}
 
 -- x is an element, by recursion on the list
@@ -23,7 +24,8 @@ In-from_Contains x xs c = In_at x xs c.0 c.1 c.2
 pub Contains-from_In : {X : Type 0} (x : X) (xs : List X) → In x xs → Contains xs x
 Contains-from_In x [] h = absurd h
 Contains-from_In x (y ∷ ys) (inl is) = (0, omega arith, is)
-Contains-from_In x (y ∷ ys) (inr later) = let c : Contains ys x = Contains-from_In x ys later in (suc c.0, omega (arith, c.1), c.2)
+Contains-from_In x (y ∷ ys) (inr later) =
+    let c : Contains ys x = Contains-from_In x ys later in (suc c.0, omega (arith, c.1), c.2)
 
 pub In-append_left : {X : Type 0} (x : X) (xs ys : List X) → In x xs → In x (xs ++ ys)
 In-append_left x [] ys h = absurd h
@@ -37,7 +39,8 @@ In-append_right x (y ∷ xs) ys h = inr (In-append_right x xs ys h)
 pub In-append_cases : {X : Type 0} (x : X) (xs ys : List X) → In x (xs ++ ys) → In x xs ⊎ In x ys
 In-append_cases x [] ys h = inr h
 In-append_cases x (y ∷ xs) ys (inl is) = inl (inl is)
-In-append_cases x (y ∷ xs) ys (inr later) = elim (In-append_cases x xs ys later) [ inl left ↦ inl (inr left) | inr right ↦ inr right ]
+In-append_cases x (y ∷ xs) ys (inr later) =
+    elim (In-append_cases x xs ys later) [ inl left ↦ inl (inr left) | inr right ↦ inr right ]
 
 pub In-map : {X Y : Type 0} (f : X → Y) (x : X) (xs : List X) → In x xs → In (f x) (map f xs)
 In-map f x [] h = absurd h
@@ -55,7 +58,8 @@ pub In-filter : {X : Type 0} (p : X → Bool) (x : X) (xs : List X) → p x ≡ 
 In-filter p x [] passed h = absurd h
 In-filter {X} p x (y ∷ ys) passed h = step (In-filter p x ys passed) (p y) refl h
   where
-    step : (In x ys → In x (filter p ys)) → (b : Bool) → p y ≡ b → In x (y ∷ ys) → In x (cond b (y ∷ filter p ys) (filter p ys))
+    step : (In x ys → In x (filter p ys)) → (b : Bool) → p y ≡ b → In x (y ∷ ys)
+        → In x (cond b (y ∷ filter p ys) (filter p ys))
     step rest true is (inl here) = inl here
     step rest true is (inr later) = inr (rest later)
     step rest false is (inl here) = absurd (cc)
@@ -65,7 +69,8 @@ pub In-filter_from : {X : Type 0} (p : X → Bool) (x : X) (xs : List X) → In 
 In-filter_from p x [] h = absurd h
 In-filter_from {X} p x (y ∷ ys) h = step (In-filter_from p x ys) (p y) refl h
   where
-    step : (In x (filter p ys) → In x ys × (p x ≡ true)) → (b : Bool) → p y ≡ b → In x (cond b (y ∷ filter p ys) (filter p ys)) → In x (y ∷ ys) × (p x ≡ true)
+    step : (In x (filter p ys) → In x ys × (p x ≡ true)) → (b : Bool) → p y ≡ b
+        → In x (cond b (y ∷ filter p ys) (filter p ys)) → In x (y ∷ ys) × (p x ≡ true)
     step rest true is (inl here) = (inl here, cc)
     step rest true is (inr later) = (inr (rest later).0, (rest later).1)
     step rest false is later = (inr (rest later).0, (rest later).1)
@@ -89,16 +94,20 @@ AllPairs-from_Rising R (x ∷ xs) h zero (suc j) d earlier within = h.0 _ (In_he
     In_here [] k d in' = absurd (omega arith)
     In_here (y ∷ ys) zero d in' = inl refl
     In_here (y ∷ ys) (suc k) d in' = inr (In_here ys k d (omega arith))
-AllPairs-from_Rising R (x ∷ xs) h (suc i) (suc j) d earlier within = AllPairs-from_Rising R xs h.1 i j d (omega arith) (omega arith)
+AllPairs-from_Rising R (x ∷ xs) h (suc i) (suc j) d earlier within =
+    AllPairs-from_Rising R xs h.1 i j d (omega arith) (omega arith)
 
-pub Rising-append : {X : Type 0} (R : X → X → Type 0) (xs ys : List X) → Rising R xs → Rising R ys → ((x y : X) → In x xs → In y ys → R x y) → Rising R (xs ++ ys)
+pub Rising-append : {X : Type 0} (R : X → X → Type 0) (xs ys : List X) → Rising R xs → Rising R ys
+    → ((x y : X) → In x xs → In y ys → R x y) → Rising R (xs ++ ys)
 Rising-append R [] ys first second across = second
 Rising-append R (x ∷ xs) ys first second across = (
-  (λ y there. elim (In-append_cases y xs ys there) [ inl left ↦ first.0 y left | inr right ↦ across x y (inl refl) right ]),
+  (λ y there. elim (In-append_cases y xs ys there)
+      [ inl left ↦ first.0 y left | inr right ↦ across x y (inl refl) right ]),
   Rising-append R xs ys first.1 second (λ z y in_first in_second. across z y (inr in_first) in_second),
 )
 
-pub Rising-map : {X Y : Type 0} (R : X → X → Type 0) (S : Y → Y → Type 0) (f : X → Y) → ((x y : X) → R x y → S (f x) (f y)) → (xs : List X) → Rising R xs → Rising S (map f xs)
+pub Rising-map : {X Y : Type 0} (R : X → X → Type 0) (S : Y → Y → Type 0) (f : X → Y)
+    → ((x y : X) → R x y → S (f x) (f y)) → (xs : List X) → Rising R xs → Rising S (map f xs)
 Rising-map R S f keeps [] h = tt
 Rising-map {X} {Y} R S f keeps (x ∷ xs) h = (
   (λ y there.
@@ -109,7 +118,8 @@ Rising-map {X} {Y} R S f keeps (x ∷ xs) h = (
 )
 
 -- Two rising lists with the same members are the same, where no two elements bear R to each other both ways.
-pub same_from_members : {X : Type 0} (R : X → X → Type 0) → ((x y : X) → R x y → R y x → ⊥) → (xs ys : List X) → Rising R xs → Rising R ys → ((x : X) → In x xs → In x ys) → ((x : X) → In x ys → In x xs) → xs ≡ ys
+pub same_from_members : {X : Type 0} (R : X → X → Type 0) → ((x y : X) → R x y → R y x → ⊥) → (xs ys : List X)
+    → Rising R xs → Rising R ys → ((x : X) → In x xs → In x ys) → ((x : X) → In x ys → In x xs) → xs ≡ ys
 same_from_members R one_way [] [] rising rising' there back = refl
 same_from_members R one_way [] (y ∷ ys) rising rising' there back = absurd (back y (inl refl))
 same_from_members R one_way (x ∷ xs) [] rising rising' there back = absurd (there x (inl refl))
@@ -133,4 +143,6 @@ same_from_members {X} R one_way (x ∷ xs) (y ∷ ys) rising rising' there back 
     cc
   where
     itself : (a b : X) → R a b → a ≡ b → ⊥
-    itself a b below is = let P : X → Type 0 = λ c. R b c in one_way a b below (subst (λ (c : X). R c a) is (subst (λ (c : X). R a c) (sym is) below))
+    itself a b below is =
+        let P : X → Type 0 =
+        λ c. R b c in one_way a b below (subst (λ (c : X). R c a) is (subst (λ (c : X). R a c) (sym is) below))

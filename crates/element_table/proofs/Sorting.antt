@@ -19,7 +19,8 @@ not_tied x y apart = by_order (formula_cmp x y) refl
     by_order Equal is = absurd (apart (slice_cmp-IsAntisymmetric nat_cmp-IsAntisymmetric x y is))
     by_order Greater is = refl
 
-less_from_not_above : (x y : List ℕ) → is_eq (formula_cmp x y) ≡ false → is_lt (formula_cmp y x) ≡ false → formula_cmp x y ≡ Less
+less_from_not_above : (x y : List ℕ) → is_eq (formula_cmp x y) ≡ false → is_lt (formula_cmp y x) ≡ false
+    → formula_cmp x y ≡ Less
 less_from_not_above x y apart not_above = by_order (formula_cmp x y) refl
   where
     by_order : (order : Ordering) → formula_cmp x y ≡ order → formula_cmp x y ≡ Less
@@ -30,10 +31,17 @@ less_from_not_above x y apart not_above = by_order (formula_cmp x y) refl
         let both : true ≡ false = ap is_lt (sym above) ∙ not_above in
         cc
 
-pub sorted_rises : (formulas sorted : List (List ℕ)) → AllPairs (λ first later. first ≢ later) formulas → IsPermutation formulas sorted → IsSorted formula_cmp sorted → AllPairs (λ first later. formula_cmp first later ≡ Less) sorted
+pub sorted_rises : (formulas sorted : List (List ℕ)) → AllPairs (λ first later. first ≢ later) formulas
+    → IsPermutation formulas sorted → IsSorted formula_cmp sorted
+    → AllPairs (λ first later. formula_cmp first later ≡ Less) sorted
 sorted_rises formulas sorted apart moved in_order i j none earlier within =
-    let distinct : IsDistinct (eq_by_cmp formula_cmp) formulas = IsDistinct-from_apart (eq_by_cmp formula_cmp) formulas (λ a b d before in'. not_tied _ _ (apart a b d before in')) in
-    let still : IsDistinct (eq_by_cmp formula_cmp) sorted = IsDistinct-IsPermutation (eq_by_cmp formula_cmp) (eq_by_cmp_equiv nat_list_cmp_total).symm formulas sorted moved distinct in
+    let distinct : IsDistinct (eq_by_cmp formula_cmp) formulas =
+    IsDistinct-from_apart (eq_by_cmp formula_cmp) formulas
+    (λ a b d before in'. not_tied _ _ (apart a b d before in')) in
+    let still : IsDistinct (eq_by_cmp formula_cmp) sorted =
+    IsDistinct-IsPermutation (eq_by_cmp formula_cmp) (eq_by_cmp_equiv nat_list_cmp_total).symm formulas sorted
+    moved distinct in
     less_from_not_above (get_or sorted i none) (get_or sorted j none)
     (apart_from_distinct (eq_by_cmp formula_cmp) sorted i j none still earlier within)
-    (sorted_far (λ x y. is_lt (formula_cmp x y)) (ranks_by nat_list_cmp_total (λ x. x)) sorted in_order i j none (omega arith) within)
+    (sorted_far (λ x y. is_lt (formula_cmp x y)) (ranks_by nat_list_cmp_total (λ x. x)) sorted in_order i j none
+    (omega arith) within)

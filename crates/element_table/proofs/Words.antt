@@ -1,5 +1,6 @@
 -- Of formula_text: the spelling of a formula is not empty, and its bytes are visible.
-use Rattle.std.proofs.Common.{◌≡◌, ◌<◌, ◌∙◌, ℕ, Bool, true, false, cond, ◌&&◌, ltb, eqb, List, [], ◌∷◌, ◌++◌, length, get_or, refl, arith}
+use Rattle.std.proofs.Common.{◌≡◌, ◌<◌, ◌∙◌, ℕ, Bool, true, false, cond, ◌&&◌, ltb, eqb, List, [], ◌∷◌, ◌++◌, length}
+use Rattle.std.proofs.Common.{get_or, refl, arith}
 use Rattle.std.specs.Prelude.{codes}
 use Rattle.std.specs.List.{All, AllByRecursion, list_all}
 use Rattle.std.specs.Str.{all_ascii_digits}
@@ -20,20 +21,26 @@ digits_visible [] all = refl
 digits_visible (digit ∷ digits) all =
     let parts = and_parts _ _ all in
     let bounds = digit-bounds digit parts.0 in
-    and_from _ _ (and_from _ _ (lt-ltb 32 digit (omega arith)) (lt-ltb digit 127 (omega arith))) (digits_visible digits parts.1)
+    and_from _ _ (and_from _ _ (lt-ltb 32 digit (omega arith)) (lt-ltb digit 127 (omega arith)))
+    (digits_visible digits parts.1)
 
 -- the part of a place
-part_visible : (counts : ℕ → ℕ) (place : ℕ) → IsPrinted counts place → list_all visible (symbol_at place) ≡ true → list_all visible (element_text place (counts place)) ≡ true
+part_visible : (counts : ℕ → ℕ) (place : ℕ) → IsPrinted counts place → list_all visible (symbol_at place) ≡ true
+    → list_all visible (element_text place (counts place)) ≡ true
 part_visible counts place printed symbol = step (eqb (counts place) 0) refl
   where
-    step : (b : Bool) → eqb (counts place) 0 ≡ b → list_all visible (cond b [] (symbol_at place ++ count_text (counts place))) ≡ true
+    step : (b : Bool) → eqb (counts place) 0 ≡ b
+        → list_all visible (cond b [] (symbol_at place ++ count_text (counts place))) ≡ true
     step true is = refl
     step false is =
         let some : 0 < counts place = omega (arith, eqb-false (counts place) 0 is) in
         let digits = (count_of_digits-count_text (counts place) some printed.fits).0 in
-        list_all-append visible (symbol_at place) (count_text (counts place)) ∙ and_from (list_all visible (symbol_at place)) (list_all visible (count_text (counts place))) symbol (digits_visible (count_text (counts place)) digits)
+        list_all-append visible (symbol_at place) (count_text (counts place))
+        ∙ and_from (list_all visible (symbol_at place)) (list_all visible (count_text (counts place))) symbol
+        (digits_visible (count_text (counts place)) digits)
 
-parts_visible : (counts : ℕ → ℕ) (places : List ℕ) → AllByRecursion (IsPrinted counts) places → AllByRecursion (λ place. list_all visible (symbol_at place) ≡ true) places
+parts_visible : (counts : ℕ → ℕ) (places : List ℕ) → AllByRecursion (IsPrinted counts) places
+    → AllByRecursion (λ place. list_all visible (symbol_at place) ≡ true) places
     → list_all visible (text_at counts places) ≡ true
 parts_visible counts [] printed symbols = refl
 parts_visible counts (place ∷ places) printed symbols =
@@ -46,18 +53,25 @@ text_visible counts formula = step (list_all (λ count. eqb count 0) counts)
     symbols : AllByRecursion (λ place. list_all visible (symbol_at place) ≡ true) printed_places
     symbols = (refl, (refl, (refl, (refl, (refl, (refl, (refl, (refl, (refl, (refl, (refl, tt)))))))))))
 
-    step : (b : Bool) → list_all visible (cond b (codes "-") (text_at (λ place. get_or counts place 0) printed_places)) ≡ true
+    step : (b : Bool)
+        → list_all visible (cond b (codes "-") (text_at (λ place. get_or counts place 0) printed_places)) ≡ true
     step true = refl
     step false = parts_visible (λ place. get_or counts place 0) printed_places (are_printed counts formula) symbols
 
-pub formula_text-visible : (counts : List ℕ) → IsFormula counts → All (λ byte. (32 < byte) × (byte < 127)) (formula_text counts)
+pub formula_text-visible : (counts : List ℕ) → IsFormula counts
+    → All (λ byte. (32 < byte) × (byte < 127)) (formula_text counts)
 formula_text-visible counts formula place none within =
-    let both = and_parts _ _ (AllPass-from_list_all visible (formula_text counts) (text_visible counts formula) place none within) in
+    let both =
+    and_parts _ _ (AllPass-from_list_all visible (formula_text counts) (text_visible counts formula) place none
+    within) in
     (ltb-true _ _ both.0, ltb-true _ _ both.1)
 
 pub formula_text-some : (counts : List ℕ) → IsFormula counts → 0 < length (formula_text counts)
 formula_text-some counts formula = step (list_all (λ count. eqb count 0) counts) refl
   where
-    step : (b : Bool) → list_all (λ count. eqb count 0) counts ≡ b → 0 < length (cond b (codes "-") (text_at (λ place. get_or counts place 0) printed_places))
+    step : (b : Bool) → list_all (λ count. eqb count 0) counts ≡ b
+        → 0 < length (cond b (codes "-") (text_at (λ place. get_or counts place 0) printed_places))
     step true none = omega arith
-    step false some = ltb-true _ _ (and_parts _ _ (some_atom counts formula some (text_at (λ place. get_or counts place 0) printed_places) refl)).0
+    step false some =
+        ltb-true _ _ (and_parts _ _
+        (some_atom counts formula some (text_at (λ place. get_or counts place 0) printed_places) refl)).0

@@ -26,6 +26,3 @@ pub use limits::Limits;
 pub use reading::{FormulaFault, read_formula};
 pub use text::{FormulaText, GREATEST_FORMULA_TEXT, print_formula};
 pub use window::Window;
-
-#[cfg(test)]
-mod tests;

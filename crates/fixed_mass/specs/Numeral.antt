@@ -1,5 +1,6 @@
 -- Numerals: the parts of a text, and which texts are numerals.
-use Rattle.std.specs.Prelude.{◌++◌, ◌^◌, ℕ, List, Bool, Option, Some, None, ◌&&◌, ◌||◌, not, ◌==◌, nat_lt, length, if◌then◌else◌}
+use Rattle.std.specs.Prelude.{◌++◌, ◌^◌, ℕ, List, Bool, Option, Some, None, ◌&&◌, ◌||◌, not, ◌==◌, nat_lt, length}
+use Rattle.std.specs.Prelude.{if◌then◌else◌}
 use Rattle.std.specs.List.{before_first, after_first, list_any}
 use Rattle.std.specs.Str.{all_ascii_digits}
 use Rattle.std.specs.Str.Parse.{without_leading_plus, without_leading_sign, starts_with_minus, digits_value}

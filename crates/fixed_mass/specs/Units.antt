@@ -1,5 +1,6 @@
 -- The value of a numeral in whole units.
-use Rattle.std.specs.Prelude.{◌+◌, ◌*◌, ◌/◌, ◌^◌, ◌++◌, ℕ, List, Option, Some, None, length, nat_le, ◌&&◌, if◌then◌else◌}
+use Rattle.std.specs.Prelude.{◌+◌, ◌*◌, ◌/◌, ◌^◌, ◌++◌, ℕ, List, Option, Some, None, length, nat_le, ◌&&◌}
+use Rattle.std.specs.Prelude.{if◌then◌else◌}
 use Rattle.std.specs.Str.Parse.{digits_value}
 use Rattle.fixed_mass.specs.Numeral.{whole_of, fraction_of, raise_of, lower_of, is_numeral}
 

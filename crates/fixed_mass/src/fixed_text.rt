@@ -90,24 +90,3 @@ fn prepend_whole(text: &mut FixedText, number: u64)
     }
     text.prepend(b'0' + rest as u8);
 }
-
-#[cfg(test)]
-mod tests {
-    use super::*;
-
-    #[test]
-    fn prints_seven_decimals(rt: HostRuntime) {
-        for (units, want) in [
-            (1_810_707_000, "181.0707000"),
-            (0, "0.0000000"),
-            (1, "0.0000001"),
-            (9_999_999, "0.9999999"),
-            (10_000_000, "1.0000000"),
-            (100_000_000, "10.0000000"),
-            (1_000_000_000_000_000_000, "100000000000.0000000"),
-            (u64::MAX, "1844674407370.9551615"),
-        ] {
-            assert_eq!(rt; print_units(units).items(), want.as_bytes(), "at {units}");
-        }
-    }
-}

@@ -1,9 +1,11 @@
 //! The parts of a numeral.
-ghost use Rattle.std.specs.Prelude.{◌≡◌, ◌≤◌, ◌+◌, ◌++◌, ℕ, List, IfSome, IsNone, IsTrue, min, length, true, false, take, drop};
+ghost use Rattle.std.specs.Prelude.{◌≡◌, ◌≤◌, ◌+◌, ◌++◌, ℕ, List, IfSome, IsNone, IsTrue, min, length, true, false};
+ghost use Rattle.std.specs.Prelude.{take, drop};
 ghost use Rattle.std.specs.List.{position_or_len};
 ghost use Rattle.std.specs.Str.{all_ascii_digits};
 ghost use Rattle.std.specs.Str.Parse.{digits_value, starts_with_minus, without_leading_plus, without_leading_sign};
-ghost use Rattle.fixed_mass.specs.Numeral.{is_mark, is_point, is_digits, is_exponent, is_numeral, whole_of, fraction_of, raise_by, raise_of, lower_by, lower_of};
+ghost use Rattle.fixed_mass.specs.Numeral.{is_mark, is_point, is_digits, is_exponent, is_numeral, whole_of};
+ghost use Rattle.fixed_mass.specs.Numeral.{fraction_of, raise_by, raise_of, lower_by, lower_of};
 ghost use Rattle.fixed_mass.specs.inside.Tenths.{greatest_places};
 
 /// From here on a further place of an exponent changes no answer for a text that is short enough to be read.

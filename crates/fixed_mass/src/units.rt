@@ -1,12 +1,14 @@
 //! Numerals read to whole units.
-ghost use Rattle.std.specs.Prelude.{◌≡◌, ◌≤◌, ◌<◌, ◌+◌, ◌-◌, ◌*◌, ◌/◌, ◌^◌, ◌++◌, ◌↔◌, ℕ, List, Err, IfOk, IfSome, IsNone, IsTrue, length, take, true, false};
+ghost use Rattle.std.specs.Prelude.{◌≡◌, ◌≤◌, ◌<◌, ◌+◌, ◌-◌, ◌*◌, ◌/◌, ◌^◌, ◌++◌, ◌↔◌, ℕ, List, Err, IfOk, IfSome};
+ghost use Rattle.std.specs.Prelude.{IsNone, IsTrue, length, take, true, false};
 ghost use Rattle.std.specs.Result.{result_ok};
 ghost use Rattle.std.specs.Str.{all_ascii_digits};
 ghost use Rattle.std.specs.Str.Parse.{digits_value, digits_value_after};
 ghost use Rattle.fixed_mass.specs.Numeral.{is_numeral};
 ghost use Rattle.fixed_mass.specs.inside.Tenths.{leading_of, rounded_of, tenths_of};
 ghost use Rattle.fixed_mass.specs.Numeral.{is_digits, number_of_digits};
-ghost use Rattle.fixed_mass.specs.Units.{greatest_numeral_length, greatest_scale, greatest_units, readable_units, units_of};
+ghost use Rattle.fixed_mass.specs.Units.{greatest_numeral_length, greatest_scale, greatest_units, readable_units};
+ghost use Rattle.fixed_mass.specs.Units.{units_of};
 
 use crate::numeral::{Numeral, is_all_digits};
 use crate::powers::POWERS_OF_TEN;
@@ -137,117 +139,4 @@ fn read_on(start: u64, digits: &[u8]) -> Option<u64>
             .checked_add(u64::from(*digit - b'0'))?;
     }
     Some(value)
-}
-
-#[cfg(test)]
-mod tests {
-    use super::*;
-    use NumeralFault::{NotANumeral, OutOfRange, TooLong};
-
-    /// The greatest number of units.
-    const GREATEST: u64 = 1_000_000_000_000_000_000;
-
-    #[test]
-    fn reads_numerals_to_whole_units(rt: HostRuntime) {
-        for (text, scale, want) in [
-            ("1.8107066405e2", 7, 1_810_706_641),
-            ("163.0601", 7, 1_630_601_000),
-            ("19.0178410", 7, 190_178_410),
-            ("1000", 6, 1_000_000_000),
-            (".5", 7, 5_000_000),
-            ("5.", 7, 50_000_000),
-            ("5", 7, 50_000_000),
-            ("+5.0e-1", 7, 5_000_000),
-            ("5E+2", 7, 5_000_000_000),
-            ("005.10", 7, 51_000_000),
-            ("123e-3", 7, 1_230_000),
-            ("0e999", 7, 0),
-            ("0e99999999999999999999", 7, 0),
-            ("1e-999", 7, 0),
-            ("0.00000005", 7, 1),
-            ("0.000000049999999", 7, 0),
-            ("0.00000015", 7, 2),
-            ("5e-8", 7, 1),
-            ("49e-9", 7, 0),
-            ("0.5", 0, 1),
-            ("0.49", 0, 0),
-            ("1.5", 0, 2),
-            ("1.0000000005", 9, 1_000_000_001),
-            ("100000000000", 7, GREATEST),
-            ("100000000000.00000004", 7, GREATEST),
-            ("99999999999.99999995", 7, GREATEST),
-            ("1e11", 7, GREATEST),
-            ("1000000000000000000.4", 0, GREATEST),
-            ("1e00000000000000000000000000000000000001", 7, 100_000_000),
-            ("0e99999999999999999999999999999999999999", 7, 0),
-            ("1e-9999999999999999999999999999999999999", 7, 0),
-            (
-                "123456789012345678901234567890123456e-20",
-                0,
-                1_234_567_890_123_457,
-            ),
-            ("0000000000000000000000000000000000000000", 7, 0),
-            ("0000000000000000000000000000000000000019", 0, 19),
-        ] {
-            assert!(rt; scale <= 9);
-            assert_eq!(rt; read_units(text.as_bytes(), scale), Ok(want), "at {text}");
-        }
-    }
-
-    #[test]
-    fn reads_digits(rt: HostRuntime) {
-        for (digits, want) in [
-            ("", None),
-            ("0", Some(0)),
-            ("007", Some(7)),
-            ("18446744073709551615", Some(u64::MAX)),
-            ("18446744073709551616", None),
-            ("+1", None),
-            ("1.", None),
-            ("1 ", None),
-        ] {
-            assert_eq!(rt; read_digits(digits.as_bytes()), want, "at {digits}");
-        }
-    }
-
-    #[test]
-    fn refuses_in_order(rt: HostRuntime) {
-        for (text, scale, want) in [
-            ("", 7, NotANumeral),
-            (".", 7, NotANumeral),
-            ("+", 7, NotANumeral),
-            ("-1", 7, NotANumeral),
-            (" 1", 7, NotANumeral),
-            ("1 ", 7, NotANumeral),
-            ("++1", 7, NotANumeral),
-            ("1+", 7, NotANumeral),
-            ("1.2.3", 7, NotANumeral),
-            ("1,5", 7, NotANumeral),
-            ("1e", 7, NotANumeral),
-            ("1e+", 7, NotANumeral),
-            ("1e-", 7, NotANumeral),
-            ("1e+-1", 7, NotANumeral),
-            ("1e1.0", 7, NotANumeral),
-            ("1e1e1", 7, NotANumeral),
-            ("e5", 7, NotANumeral),
-            ("+e5", 7, NotANumeral),
-            (".e5", 7, NotANumeral),
-            ("0x10", 7, NotANumeral),
-            ("nan", 7, NotANumeral),
-            ("00000000000000000000000000000000000000001x", 7, NotANumeral),
-            ("00000000000000000000000000000000000000001", 7, TooLong),
-            ("99999999999999999999999999999999999999999", 7, TooLong),
-            ("9999999999999999999999999999999999999999", 7, OutOfRange),
-            ("1e12", 7, OutOfRange),
-            ("1e99999999999999999999999999999999999999", 7, OutOfRange),
-            ("100000000000.00000005", 7, OutOfRange),
-            ("1000000000000000000.5", 0, OutOfRange),
-            ("18446744073709551616", 0, OutOfRange),
-            ("1e19", 0, OutOfRange),
-            ("1e20", 0, OutOfRange),
-        ] {
-            assert!(rt; scale <= 9);
-            assert_eq!(rt; read_units(text.as_bytes(), scale), Err(want), "at {text}");
-        }
-    }
 }

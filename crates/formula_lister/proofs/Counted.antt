@@ -18,12 +18,15 @@ pub record AreCounted (limits : List ℕ) (place after : ℕ) (elements : List E
   pub others : (k : ℕ) → k < place → IsUncounted elements k → slice_index limits k ≡ 0
   pub formula : 0 < place → IsFormula limits
 
-lower_more : (place : ℕ) (elements : List Element) → AllByRecursion (λ element. element.place < place) elements → AllByRecursion (λ element. element.place < place + 1) elements
+lower_more : (place : ℕ) (elements : List Element) → AllByRecursion (λ element. element.place < place) elements
+    → AllByRecursion (λ element. element.place < place + 1) elements
 lower_more place [] lower = tt
 lower_more place (element ∷ elements) lower = (omega (arith, lower.0), lower_more place elements lower.1)
 
 -- an element without a positive limit is not counted
-pub AreCounted-without : (limits : List ℕ) (place after : ℕ) (elements : List Element) → IsFormula limits → slice_index limits place ≡ 0 → AreCounted limits place after elements → AreCounted limits (place + 1) after elements
+pub AreCounted-without : (limits : List ℕ) (place after : ℕ) (elements : List Element) → IsFormula limits
+    → slice_index limits place ≡ 0 → AreCounted limits place after elements
+    → AreCounted limits (place + 1) after elements
 AreCounted-without limits place after elements formula none h = record {
   known = h.known;
   reach = h.reach;
@@ -37,7 +40,11 @@ AreCounted-without limits place after elements formula none h = record {
 }
 
 -- and one with a positive limit is counted before the others
-pub AreCounted-with : (limits : List ℕ) (element : Element) (elements : List Element) → IsFormula limits → element.place < element_count → element.mass ≡ slice_index masses element.place → 2 * greatest_half_width < element.mass → element.mass ≤ heaviest_atom → element.limit ≡ slice_index limits element.place → AreCounted limits element.place element.after elements → AreCounted limits (element.place + 1) (element.after + element.limit * element.mass) (element ∷ elements)
+pub AreCounted-with : (limits : List ℕ) (element : Element) (elements : List Element) → IsFormula limits
+    → element.place < element_count → element.mass ≡ slice_index masses element.place
+    → 2 * greatest_half_width < element.mass → element.mass ≤ heaviest_atom → element.limit
+    ≡ slice_index limits element.place → AreCounted limits element.place element.after elements
+    → AreCounted limits (element.place + 1) (element.after + element.limit * element.mass) (element ∷ elements)
 AreCounted-with limits element elements formula inside weighed heavy light limited h =
     let capped : element.limit ≤ greatest_count = omega (arith, formula.capped element.place) in
     let bound : element.limit * element.mass ≤ greatest_count * heaviest_atom = mul-le _ _ _ _ capped light in

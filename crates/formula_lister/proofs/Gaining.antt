@@ -1,7 +1,9 @@
 -- How a list gains count lists, none twice, and how they become too many.
-use Rattle.std.proofs.Common.{◌≡◌, ◌≢◌, ℕ, suc, ◌≤◌, ◌⊎◌, inl, inr, List, [], ◌∷◌, ◌++◌, length, get_or, refl, subst, sym, ap, ◌∙◌, append_assoc, length-append, arith}
+use Rattle.std.proofs.Common.{◌≡◌, ◌≢◌, ℕ, suc, ◌≤◌, ◌⊎◌, inl, inr, List, [], ◌∷◌, ◌++◌, length, get_or, refl, subst}
+use Rattle.std.proofs.Common.{sym, ap, ◌∙◌, append_assoc, length-append, arith}
 use Rattle.std.proofs.lemmas.List.{append-nil}
-use Rattle.std.proofs.lemmas.List.Elements.{All-append, Contains-get_or, Contains-append_left, Contains-append_right, Contains-append_cases}
+use Rattle.std.proofs.lemmas.List.Elements.{All-append, Contains-get_or, Contains-append_left, Contains-append_right}
+use Rattle.std.proofs.lemmas.List.Elements.{Contains-append_cases}
 use Rattle.std.proofs.lemmas.List.Kept.{AllPairs-cons}
 use Rattle.std.specs.List.{AllPairs, Contains}
 use Rattle.element_table.specs.FormulaList.{greatest_list}
@@ -10,7 +12,8 @@ use Rattle.formula_lister.specs.inside.Counting.{Gains, Overfills}
 Contains-cons : {X : Type 0} (x y : X) (xs : List X) → Contains xs y → Contains (x ∷ xs) y
 Contains-cons x y xs h = (suc h.0, omega (arith, h.1), h.2)
 
-AllPairs-append : {X : Type 0} (R : X → X → Type 0) (xs ys : List X) → AllPairs R xs → AllPairs R ys → ((x y : X) → Contains xs x → Contains ys y → R x y) → AllPairs R (xs ++ ys)
+AllPairs-append : {X : Type 0} (R : X → X → Type 0) (xs ys : List X) → AllPairs R xs → AllPairs R ys
+    → ((x y : X) → Contains xs x → Contains ys y → R x y) → AllPairs R (xs ++ ys)
 AllPairs-append R [] ys first second across = second
 AllPairs-append R (x ∷ xs) ys first second across =
     AllPairs-cons R x (xs ++ ys)
@@ -35,14 +38,18 @@ Gains-one list one = record {
   added = one ∷ [];
   is = refl;
   members = λ counts. (
-    λ h. let P : ℕ → Type 0 = λ k. get_or (one ∷ []) k counts ≡ counts in let first : h.0 ≡ 0 = omega (arith, h.1) in subst P first h.2,
+    λ h. let P : ℕ → Type 0 =
+        λ k. get_or (one ∷ []) k counts ≡ counts in let first : h.0 ≡ 0 = omega (arith, h.1) in subst P first h.2,
     λ e. (0, (omega arith), e),
   );
   distinct = λ i j d before below. absurd (omega arith);
 }
 
 -- first what P holds of and then what Q holds of, where R holds of both
-pub Gains-more : (P Q R : List ℕ → Type 0) (before middle now : List (List ℕ)) → Gains P before middle → Gains Q middle now → ((counts : List ℕ) → P counts → Q counts → ⊥) → ((counts : List ℕ) → R counts → P counts ⊎ Q counts) → ((counts : List ℕ) → P counts → R counts) → ((counts : List ℕ) → Q counts → R counts) → Gains R before now
+pub Gains-more : (P Q R : List ℕ → Type 0) (before middle now : List (List ℕ)) → Gains P before middle
+    → Gains Q middle now → ((counts : List ℕ) → P counts → Q counts → ⊥)
+    → ((counts : List ℕ) → R counts → P counts ⊎ Q counts) → ((counts : List ℕ) → P counts → R counts)
+    → ((counts : List ℕ) → Q counts → R counts) → Gains R before now
 Gains-more P Q R before middle now g h apart either left right = record {
   added = g.added ++ h.added;
   is = h.is ∙ (ap (λ l. l ++ h.added) g.is ∙ append_assoc before g.added h.added);
@@ -61,7 +68,8 @@ Gains-more P Q R before middle now g h apart either left right = record {
 }
 
 -- another way to say what was gained
-pub Gains-as : (P Q : List ℕ → Type 0) (before now : List (List ℕ)) → Gains P before now → ((counts : List ℕ) → P counts → Q counts) → ((counts : List ℕ) → Q counts → P counts) → Gains Q before now
+pub Gains-as : (P Q : List ℕ → Type 0) (before now : List (List ℕ)) → Gains P before now
+    → ((counts : List ℕ) → P counts → Q counts) → ((counts : List ℕ) → Q counts → P counts) → Gains Q before now
 Gains-as P Q before now g to from = record {
   added = g.added;
   is = g.is;
@@ -70,7 +78,8 @@ Gains-as P Q before now g to from = record {
 }
 
 -- one more after a list that has as many as it may
-pub Overfills-one : (P : List ℕ → Type 0) (before : List (List ℕ)) (one : List ℕ) → greatest_list ≤ length before → P one → Overfills P before
+pub Overfills-one : (P : List ℕ → Type 0) (before : List (List ℕ)) (one : List ℕ) → greatest_list ≤ length before
+    → P one → Overfills P before
 unfolding Gains-one
 Overfills-one P before one full new = record {
   found = one ∷ [];
@@ -80,7 +89,9 @@ Overfills-one P before one full new = record {
 }
 
 -- first what P holds of and then too many of which Q holds, where R holds of both
-pub Overfills-later : (P Q R : List ℕ → Type 0) (before middle : List (List ℕ)) → Gains P before middle → Overfills Q middle → ((counts : List ℕ) → P counts → Q counts → ⊥) → ((counts : List ℕ) → P counts → R counts) → ((counts : List ℕ) → Q counts → R counts) → Overfills R before
+pub Overfills-later : (P Q R : List ℕ → Type 0) (before middle : List (List ℕ)) → Gains P before middle
+    → Overfills Q middle → ((counts : List ℕ) → P counts → Q counts → ⊥) → ((counts : List ℕ) → P counts → R counts)
+    → ((counts : List ℕ) → Q counts → R counts) → Overfills R before
 Overfills-later P Q R before middle g h apart left right = record {
   found = g.added ++ h.found;
   members = λ counts c. elim (Contains-append_cases g.added h.found counts c) [
@@ -93,7 +104,8 @@ Overfills-later P Q R before middle g h apart left right = record {
 }
 
 -- another way to say what was found
-pub Overfills-as : (P Q : List ℕ → Type 0) (before : List (List ℕ)) → Overfills P before → ((counts : List ℕ) → P counts → Q counts) → Overfills Q before
+pub Overfills-as : (P Q : List ℕ → Type 0) (before : List (List ℕ)) → Overfills P before
+    → ((counts : List ℕ) → P counts → Q counts) → Overfills Q before
 Overfills-as P Q before h to = record {
   found = h.found;
   members = λ counts c. to counts (h.members counts c);

@@ -6,8 +6,6 @@ mod counting;
 mod element;
 mod lister;
 mod outcome;
-#[cfg(test)]
-mod tests;
 
 pub use lister::list;
 pub use outcome::{GREATEST_LIST, ListFault};

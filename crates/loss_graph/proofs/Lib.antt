@@ -6,4 +6,3 @@ pub mod Joining
 pub mod Heads
 pub mod Built
 mod Examples
-pub mod Descending

@@ -1,5 +1,3 @@
 pub mod Gathered
 pub mod Placed
 pub mod Joining
-pub mod Worked
-pub mod Descending

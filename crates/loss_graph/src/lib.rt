@@ -4,13 +4,9 @@
 mod building;
 mod edges;
 mod gathering;
-#[cfg(test)]
-mod ladder;
 mod loss_graph;
 mod outcome;
 mod scoring;
-#[cfg(test)]
-mod tests;
 mod vertex;
 
 pub use building::build;

@@ -1,3 +1,4 @@
 pub mod LossTables
 pub mod NearScores
 pub mod Defaults
+mod Examples

@@ -1,5 +1,6 @@
 -- The scores of a peak, of an error and of a loss.
-use Rattle.std.specs.Prelude.{◌*◌, ◌/◌, ◌==◌, ℕ, ℤ, pos, ◌+ℤ◌, ◌-ℤ◌, int_lt, nat_le, Bool, List, min, unwrap_or, if◌then◌else◌}
+use Rattle.std.specs.Prelude.{◌*◌, ◌/◌, ◌==◌, ℕ, ℤ, pos, ◌+ℤ◌, ◌-ℤ◌, int_lt, nat_le, Bool, List, min, unwrap_or}
+use Rattle.std.specs.Prelude.{if◌then◌else◌}
 use Rattle.std.specs.FinMap.{find}
 use Rattle.std.specs.Map.{lookup}
 use Rattle.element_table.specs.Formula.{formula_cmp, mass_of}

@@ -1,5 +1,6 @@
 -- The tables that scores are read from.
-use Rattle.std.specs.Prelude.{◌≤◌, ◌≢◌, ℕ, ℤ, pos, int_lt, Bool, false, ◌&&◌, List, [], ◌∷◌, length, map, All, AllPairs, IsTrue}
+use Rattle.std.specs.Prelude.{◌≤◌, ◌≢◌, ℕ, ℤ, pos, int_lt, Bool, false, ◌&&◌, List, [], ◌∷◌, length, map, All, AllPairs}
+use Rattle.std.specs.Prelude.{IsTrue}
 use Rattle.std.specs.FinMap.{put}
 use Rattle.std.specs.List.Sorted.{IsStrictlySortedBy}
 use Rattle.std.specs.Map.{keys_of}

@@ -1,6 +1,8 @@
 //! Laws of the scores, which a check of this crate proves.
 ghost use Rattle.std.specs.Prelude.{◌≡◌, ℕ, List, map};
-ghost use Rattle.score_tables.specs.Default.{default_named_texts, default_implausible_texts, default_named, default_implausible, default_scores, default_tables, some_losses, some_loss_scores};
+ghost use Rattle.score_tables.specs.Default.{default_named_texts, default_implausible_texts, default_named};
+ghost use Rattle.score_tables.specs.Default.{default_implausible, default_scores, default_tables, some_losses};
+ghost use Rattle.score_tables.specs.Default.{some_loss_scores};
 ghost use Rattle.score_tables.specs.Scores.{loss_score_of};
 ghost use Rattle.score_tables.specs.Tables.{IsScores, ScoresValue, in_formula_order};
 ghost use Rattle.element_table.specs.FormulaText.{formula_text};

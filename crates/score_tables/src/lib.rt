@@ -15,6 +15,3 @@ pub use laws::{
     some_losses_score_so, sorted_tables_are_right,
 };
 pub use scores::Scores;
-
-#[cfg(test)]
-mod tests;

@@ -6,7 +6,8 @@ ghost use Rattle.element_table.specs.Listed.{has_parity};
 ghost use Rattle.element_table.specs.Rule.{IsNearZero, odd};
 ghost use Rattle.element_table.specs.Window.{greatest_half_width};
 ghost use Rattle.score_tables.specs.Default.{default_scores};
-ghost use Rattle.score_tables.specs.Scores.{error_score_of, loss_score_of, peak_score_of, size_cost_of, unnamed_score_of};
+ghost use Rattle.score_tables.specs.Scores.{error_score_of, loss_score_of, peak_score_of, size_cost_of};
+ghost use Rattle.score_tables.specs.Scores.{unnamed_score_of};
 ghost use Rattle.score_tables.specs.Scores.{greatest_cost, greatest_single_score};
 ghost use Rattle.score_tables.specs.Tables.{IsScores, greatest_score, in_formula_order};
 

@@ -3,8 +3,6 @@
 
 mod rule;
 mod sieve;
-#[cfg(test)]
-mod tests;
 
 pub use rule::{Parity, Rule, all_hold, fragment_rule, neutral_rule};
 pub use sieve::{Sieve, Test};

@@ -6,4 +6,5 @@ use Rattle.adducts.proofs.adduct.by_name.Given as goal
 
 abbrev pub invariant-loop-known : goal.invariant-loop-known
 invariant-loop-known l =
-    find (λ row. bytes_eq row.0.now l.name) (drop l.known-index ADDUCTS) ≡ find (λ row. bytes_eq row.0.now l.name) ADDUCTS
+    find (λ row. bytes_eq row.0.now l.name) (drop l.known-index ADDUCTS)
+    ≡ find (λ row. bytes_eq row.0.now l.name) ADDUCTS

@@ -8,4 +8,5 @@ pub returns-then-interval-precursor : goal.returns-then-interval-precursor
 returns-then-interval-precursor c =
     let below : nat_lt c.args.interval.high c.args.precursor.low ≡ true = lt-ltb _ _ c.if-interval-precursor.true in
     rw below
-    (all_from_yields_List (λ other. is_apart c.args.interval other) _ _ _ c.all.ensures.ran (YieldsList-from_slice c.args.taken.now cc) (λ x b q k. search (rules, tests)))
+    (all_from_yields_List (λ other. is_apart c.args.interval other) _ _ _ c.all.ensures.ran
+    (YieldsList-from_slice c.args.taken.now cc) (λ x b q k. search (rules, tests)))

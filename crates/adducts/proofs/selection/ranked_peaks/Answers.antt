@@ -10,9 +10,14 @@ use Rattle.adducts.proofs.selection.ranked_peaks.Goals as goal
 pub returns : goal.returns
 returns c =
     let kept = filter_same _ has_intensity _ (λ x b f' k. search rules) _ _ c.retain.ensures.filtered in
-    let same : c.retain.new.self.items ≡ filter has_intensity c.args.peaks.now = kept ∙ ap (filter has_intensity) c.in_ok-ranked.ensures.items in
+    let same : c.retain.new.self.items ≡ filter has_intensity c.args.peaks.now =
+    kept ∙ ap (filter has_intensity) c.in_ok-ranked.ensures.items in
     record {
-      same_peaks = subst (λ (peaks : List PeakValue). IsPermutation peaks c.sort_unstable_by_key.new.self.items) same c.sort_unstable_by_key.ensures.permutation;
+      same_peaks =
+          subst (λ (peaks : List PeakValue). IsPermutation peaks c.sort_unstable_by_key.new.self.items) same
+          c.sort_unstable_by_key.ensures.permutation;
       in_order =
-          c.sort_unstable_by_key.ensures.sorted (λ (peak : PeakValue). (record { 0 = peak.intensity }, peak.mz, peak.line)) (answers_always _ _ _ (λ f a r g h. search rules));
+          c.sort_unstable_by_key.ensures.sorted
+          (λ (peak : PeakValue). (record { 0 = peak.intensity }, peak.mz, peak.line))
+          (answers_always _ _ _ (λ f a r g h. search rules));
     }

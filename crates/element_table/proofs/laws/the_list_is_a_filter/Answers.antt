@@ -7,4 +7,5 @@ returns-clause-is_listed c = listed_of-is_listed
 
 pub returns-clause-only_one : goal.returns-clause-only_one
 returns-clause-only_one c window limits rules formulas places listed =
-    same_lists_listed window limits rules formulas (listed_of window limits rules) listed (listed_of-is_listed window limits rules places)
+    same_lists_listed window limits rules formulas (listed_of window limits rules) listed
+    (listed_of-is_listed window limits rules places)

@@ -8,6 +8,8 @@ loop-place-preserved c = (
   flat_map-next (λ place. element_text place (slice_index c.args.formula.now place)) printed_places _ _ _
       c.loop-place-test.true
       c.loop-place.invariant.0
-      (c.append_element.ensures.text ∙ ap (λ count. c.loop-place.bytes.items ++ element_text (get_or printed_places c.loop-place.place-index 0) count) c.count.ensures.count),
+      (c.append_element.ensures.text ∙ ap
+      (λ count. c.loop-place.bytes.items ++ element_text (get_or printed_places c.loop-place.place-index 0) count)
+      c.count.ensures.count),
   omega (arith, c.append_element.ensures.short),
 )

@@ -11,13 +11,19 @@ returns-then-mark-text-clause-some c = is_exponent-no_mark c.args.text.now (omeg
 pub returns-clause-some : goal.returns-clause-some
 returns-clause-some c =
     let text = c.args.text.now in
-    let behind : c.behind.result.now ≡ exponent_of text = c.behind.ensures ∙ ap (λ m. drop (m + 1) text) c.requires.place in
-    let e : is_exponent text ≡ is_digits (without_leading_sign c.behind.result.now) = is_exponent-mark text (omega (arith, c.requires.place)) ∙ ap (λ t. is_digits (without_leading_sign t)) (sym behind) in
+    let behind : c.behind.result.now ≡ exponent_of text =
+    c.behind.ensures ∙ ap (λ m. drop (m + 1) text) c.requires.place in
+    let e : is_exponent text ≡ is_digits (without_leading_sign c.behind.result.now) =
+    is_exponent-mark text (omega (arith, c.requires.place))
+    ∙ ap (λ t. is_digits (without_leading_sign t)) (sym behind) in
     subst (λ (b : Bool). IfSome c.read_exponent.result (λ _. b ≡ true)) (sym e) c.read_exponent.ensures.some
 
 pub returns-clause-none : goal.returns-clause-none
 returns-clause-none c none =
     let text = c.args.text.now in
-    let behind : c.behind.result.now ≡ exponent_of text = c.behind.ensures ∙ ap (λ m. drop (m + 1) text) c.requires.place in
-    let e : is_exponent text ≡ is_digits (without_leading_sign c.behind.result.now) = is_exponent-mark text (omega (arith, c.requires.place)) ∙ ap (λ t. is_digits (without_leading_sign t)) (sym behind) in
+    let behind : c.behind.result.now ≡ exponent_of text =
+    c.behind.ensures ∙ ap (λ m. drop (m + 1) text) c.requires.place in
+    let e : is_exponent text ≡ is_digits (without_leading_sign c.behind.result.now) =
+    is_exponent-mark text (omega (arith, c.requires.place))
+    ∙ ap (λ t. is_digits (without_leading_sign t)) (sym behind) in
     e ∙ c.read_exponent.ensures.none none

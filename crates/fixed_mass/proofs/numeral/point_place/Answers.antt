@@ -9,5 +9,7 @@ use Rattle.fixed_mass.proofs.numeral.point_place.Goals as goal
 pub returns-clause-place : goal.returns-clause-place
 returns-clause-place c =
     let text = c.args.text.now in
-    let found : c.position.result ≡ position is_point text = position_from_yields_List is_point _ _ c.position.result c.position.ensures.ran (YieldsList-from_slice text cc) (λ x b q k. search (rules, tests)) in
+    let found : c.position.result ≡ position is_point text =
+    position_from_yields_List is_point _ _ c.position.result c.position.ensures.ran (YieldsList-from_slice text cc)
+    (λ x b q k. search (rules, tests)) in
     c.unwrap_or.ensures ∙ ap (λ place. unwrap_or place (length text)) found ∙ place_is is_point text

@@ -13,16 +13,23 @@ none_not None P v h n = h
 none_not (Some x) P v h n = λ p. absurd (cc)
 
 pub returns-in_err-power-clause-none : goal.returns-in_err-power-clause-none
-returns-in_err-power-clause-none c _ = past_table c.args.value c.args.places (omega arith) (omega (arith, c.in_err-power.ensures))
+returns-in_err-power-clause-none c _ =
+    past_table c.args.value c.args.places (omega arith) (omega (arith, c.in_err-power.ensures))
 
 pub returns-clause-some : goal.returns-clause-some
 returns-clause-some c =
-    let power : c.in_ok-power.power.now ≡ 10 ^ c.args.places = c.in_ok-power.ensures.lookup.1 ∙ power_at c.args.places c.in_ok-power.power.now c.in_ok-power.ensures.lookup.3.0 in
-    some_value c.checked_mul.result _ _ (c.args.value * 10 ^ c.args.places) c.checked_mul.ensures (ap (λ p. c.args.value * p) power)
+    let power : c.in_ok-power.power.now ≡ 10 ^ c.args.places =
+    c.in_ok-power.ensures.lookup.1 ∙ power_at c.args.places c.in_ok-power.power.now
+    c.in_ok-power.ensures.lookup.3.0 in
+    some_value c.checked_mul.result _ _ (c.args.value * 10 ^ c.args.places) c.checked_mul.ensures
+    (ap (λ p. c.args.value * p) power)
 
 pub returns-clause-none : goal.returns-clause-none
 returns-clause-none c none =
-    let power : c.in_ok-power.power.now ≡ 10 ^ c.args.places = c.in_ok-power.ensures.lookup.1 ∙ power_at c.args.places c.in_ok-power.power.now c.in_ok-power.ensures.lookup.3.0 in
-    let product : c.args.value * c.in_ok-power.power.now ≡ c.args.value * 10 ^ c.args.places = ap (λ p. c.args.value * p) power in
+    let power : c.in_ok-power.power.now ≡ 10 ^ c.args.places =
+    c.in_ok-power.ensures.lookup.1 ∙ power_at c.args.places c.in_ok-power.power.now
+    c.in_ok-power.ensures.lookup.3.0 in
+    let product : c.args.value * c.in_ok-power.power.now ≡ c.args.value * 10 ^ c.args.places =
+    ap (λ p. c.args.value * p) power in
     let great = none_not c.checked_mul.result _ _ c.checked_mul.ensures none in
     omega (arith, great)

@@ -3,7 +3,8 @@ use Rattle.fixed_mass.proofs.DigitsValue.{digit_in, after_more, after_take-le}
 use Rattle.fixed_mass.proofs.units.read_on.Goals as goal
 
 pub overflow_sub-digit : goal.overflow_sub-digit
-overflow_sub-digit c = let digit = digit_in c.args.digits.now c.loop-digit.digit-index c.requires (omega arith) in omega arith
+overflow_sub-digit c =
+    let digit = digit_in c.args.digits.now c.loop-digit.digit-index c.requires (omega arith) in omega arith
 
 pub returns-in_err-checked_mul-clause-none : goal.returns-in_err-checked_mul-clause-none
 returns-in_err-checked_mul-clause-none c _ =

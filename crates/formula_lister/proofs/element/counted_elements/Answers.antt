@@ -11,10 +11,13 @@ loop-place-preserved c =
     elim c.if-limit-gt0.branch [
       | then-limit-gt0+in_ok-insert w ↦
           rw (w.after-is, w.elements-is, w.in_ok-insert.ensures.items)
-          (AreCounted-with limits _ c.loop-place.elements.items c.at.ensures.limits (omega arith) w.mass_at-mass.ensures.mass w.mass_at-mass.ensures.heavy w.mass_at-mass.ensures.light (omega (arith, c.at.ensures.count)) c.loop-place.invariant)
+          (AreCounted-with limits _ c.loop-place.elements.items c.at.ensures.limits (omega arith)
+          w.mass_at-mass.ensures.mass w.mass_at-mass.ensures.heavy w.mass_at-mass.ensures.light
+          (omega (arith, c.at.ensures.count)) c.loop-place.invariant)
       | else-limit-gt0 w ↦
           rw (w.after-is, w.elements-is)
-          (AreCounted-without limits place c.loop-place.after c.loop-place.elements.items c.at.ensures.limits (omega (arith, c.at.ensures.count)) c.loop-place.invariant)
+          (AreCounted-without limits place c.loop-place.after c.loop-place.elements.items c.at.ensures.limits
+          (omega (arith, c.at.ensures.count)) c.loop-place.invariant)
     ]
 
 pub returns-clause-others : goal.returns-clause-others

@@ -9,40 +9,60 @@ pub graph_over_vertices-requires-clause-can : goal.graph_over_vertices-requires-
 graph_over_vertices-requires-clause-can c =
     let lists = rw (← c.root_formula-root.ensures.root) at c.requires in
     let known : Known c.args.choice.now c.root_formula-root.result c.args.lists.now = record {
-      laws = record { proper = c.the_tests_decide.ensures.proper; lighter = c.atoms_weigh_more_than_a_window.ensures.proper };
+      laws =
+          record {
+            proper = c.the_tests_decide.ensures.proper;
+            lighter =
+                c.atoms_weigh_more_than_a_window.ensures.proper;
+          };
       are_lists = lists;
       formula = c.root_formula-root.ensures.formula;
       formulas = c.in_ok-gathered.ensures.formulas;
     } in
     let few = c.if-gathered-gt-GREATEST_GRAPH.false in
     rw (c.deref.ensures.value ∙ c.in_ok-gathered.ensures.gathered.all few)
-    (CanJoin-vertices c.args.choice.now c.root_formula-root.result c.args.lists.now known (omega (arith, few, c.in_ok-gathered.ensures.gathered.counted)))
+    (CanJoin-vertices c.args.choice.now c.root_formula-root.result c.args.lists.now known
+    (omega (arith, few, c.in_ok-gathered.ensures.gathered.counted)))
 
 pub graph_over_vertices-requires-clause-parts : goal.graph_over_vertices-requires-clause-parts
 graph_over_vertices-requires-clause-parts c place some within =
     let lists = rw (← c.root_formula-root.ensures.root) at c.requires in
     let known : Known c.args.choice.now c.root_formula-root.result c.args.lists.now = record {
-      laws = record { proper = c.the_tests_decide.ensures.proper; lighter = c.atoms_weigh_more_than_a_window.ensures.proper };
+      laws =
+          record {
+            proper = c.the_tests_decide.ensures.proper;
+            lighter =
+                c.atoms_weigh_more_than_a_window.ensures.proper;
+          };
       are_lists = lists;
       formula = c.root_formula-root.ensures.formula;
       formulas = c.in_ok-gathered.ensures.formulas;
     } in
     let is : c.deref.result.now ≡ vertices_of c.root_formula-root.result c.args.lists.now =
     c.deref.ensures.value ∙ c.in_ok-gathered.ensures.gathered.all c.if-gathered-gt-GREATEST_GRAPH.false in
-    rw is (part_of_vertices c.args.choice.now c.root_formula-root.result c.args.lists.now known place some (rw is at within))
+    rw is (part_of_vertices c.args.choice.now c.root_formula-root.result c.args.lists.now known place some
+    (rw is at within))
 
 pub invariant_of-result : goal.invariant_of-result
 invariant_of-result c =
     let lists = rw (← c.root_formula-root.ensures.root) at c.requires in
     let known : Known c.args.choice.now c.root_formula-root.result c.args.lists.now = record {
-      laws = record { proper = c.the_tests_decide.ensures.proper; lighter = c.atoms_weigh_more_than_a_window.ensures.proper };
+      laws =
+          record {
+            proper = c.the_tests_decide.ensures.proper;
+            lighter =
+                c.atoms_weigh_more_than_a_window.ensures.proper;
+          };
       are_lists = lists;
       formula = c.root_formula-root.ensures.formula;
       formulas = c.in_ok-gathered.ensures.formulas;
     } in
     let all = c.in_ok-gathered.ensures.gathered.all c.if-gathered-gt-GREATEST_GRAPH.false in
-    is_built c.args.choice.now c.args.scores.now c.root_formula-root.result c.args.lists.now c.in_ok-graph.graph c.of.result c.of-2.result known
-    (c.in_ok-graph.ensures ∙ ap (λ vertices. graph_over c.args.choice.now c.args.scores.now (vertex_at vertices 0).formula c.args.lists.now vertices) (c.deref.ensures.value ∙ all))
+    is_built c.args.choice.now c.args.scores.now c.root_formula-root.result c.args.lists.now c.in_ok-graph.graph
+    c.of.result c.of-2.result known
+    (c.in_ok-graph.ensures ∙ ap
+    (λ vertices. graph_over c.args.choice.now c.args.scores.now (vertex_at vertices 0).formula c.args.lists.now
+    vertices) (c.deref.ensures.value ∙ all))
     (c.of.ensures ∙ c.in_ok-formulas.ensures ∙ ap (map (λ vertex. vertex.formula)) (c.deref-2.ensures.value ∙ all))
     (c.of-2.ensures ∙ c.in_ok-gathered.ensures.gathered.named)
 
@@ -50,13 +70,21 @@ pub returns-clause-parts : goal.returns-clause-parts
 returns-clause-parts c =
     let lists = rw (← c.root_formula-root.ensures.root) at c.requires in
     let known : Known c.args.choice.now c.root_formula-root.result c.args.lists.now = record {
-      laws = record { proper = c.the_tests_decide.ensures.proper; lighter = c.atoms_weigh_more_than_a_window.ensures.proper };
+      laws =
+          record {
+            proper = c.the_tests_decide.ensures.proper;
+            lighter =
+                c.atoms_weigh_more_than_a_window.ensures.proper;
+          };
       are_lists = lists;
       formula = c.root_formula-root.ensures.formula;
       formulas = c.in_ok-gathered.ensures.formulas;
     } in
     let all = c.in_ok-gathered.ensures.gathered.all c.if-gathered-gt-GREATEST_GRAPH.false in
-    is_built c.args.choice.now c.args.scores.now c.root_formula-root.result c.args.lists.now c.in_ok-graph.graph c.of.result c.of-2.result known
-    (c.in_ok-graph.ensures ∙ ap (λ vertices. graph_over c.args.choice.now c.args.scores.now (vertex_at vertices 0).formula c.args.lists.now vertices) (c.deref.ensures.value ∙ all))
+    is_built c.args.choice.now c.args.scores.now c.root_formula-root.result c.args.lists.now c.in_ok-graph.graph
+    c.of.result c.of-2.result known
+    (c.in_ok-graph.ensures ∙ ap
+    (λ vertices. graph_over c.args.choice.now c.args.scores.now (vertex_at vertices 0).formula c.args.lists.now
+    vertices) (c.deref.ensures.value ∙ all))
     (c.of.ensures ∙ c.in_ok-formulas.ensures ∙ ap (map (λ vertex. vertex.formula)) (c.deref-2.ensures.value ∙ all))
     (c.of-2.ensures ∙ c.in_ok-gathered.ensures.gathered.named)

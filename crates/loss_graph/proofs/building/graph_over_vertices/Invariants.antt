@@ -7,6 +7,7 @@ use Rattle.loss_graph.proofs.building.graph_over_vertices.Given as goal
 
 abbrev pub invariant-loop-head : goal.invariant-loop-head
 invariant-loop-head l = record {
-  joined : l.builder ≡ with_edges (without_edges l.root_score l.vertices) (flat_map (edges_to l.choice l.scores l.lists l.vertices) (range_with_len 0 l.head));
+  joined : l.builder ≡ with_edges (without_edges l.root_score l.vertices)
+      (flat_map (edges_to l.choice l.scores l.lists l.vertices) (range_with_len 0 l.head));
   below : HeadsBelow l.head l.builder.edges;
 }

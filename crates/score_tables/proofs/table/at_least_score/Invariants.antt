@@ -5,4 +5,6 @@ use Rattle.score_tables.proofs.table.at_least_score.Given as goal
 
 -- no pair so far passes
 abbrev pub invariant-loop-bound : goal.invariant-loop-bound
-invariant-loop-bound l = first_score (λ at_least. nat_le at_least l.share) (drop l.bound-index l.pairs) ≡ first_score (λ at_least. nat_le at_least l.share) l.pairs
+invariant-loop-bound l =
+    first_score (λ at_least. nat_le at_least l.share) (drop l.bound-index l.pairs)
+    ≡ first_score (λ at_least. nat_le at_least l.share) l.pairs

@@ -5,4 +5,6 @@ use Rattle.score_tables.proofs.table.at_most_score.Given as goal
 
 -- no pair so far passes
 abbrev pub invariant-loop-bound : goal.invariant-loop-bound
-invariant-loop-bound l = first_score (λ at_most. nat_le l.share at_most) (drop l.bound-index l.pairs) ≡ first_score (λ at_most. nat_le l.share at_most) l.pairs
+invariant-loop-bound l =
+    first_score (λ at_most. nat_le l.share at_most) (drop l.bound-index l.pairs)
+    ≡ first_score (λ at_most. nat_le l.share at_most) l.pairs

@@ -4,7 +4,8 @@ use Rattle.colour_graph.proofs.allowed.Allowed.all.Goals as goal
 
 pub returns-clause-all : goal.returns-clause-all
 returns-clause-all c =
-    marks_of-all _ _ c.edge_count-count.result (c.in_ok-words.ensures.items_if_clones_equal (λ y same. same)) (omega arith)
+    marks_of-all _ _ c.edge_count-count.result (c.in_ok-words.ensures.items_if_clones_equal (λ y same. same))
+    (omega arith)
     ∙ ap (λ count. replicate count true) c.edge_count-count.ensures.count
 
 pub returns-clause-set : goal.returns-clause-set

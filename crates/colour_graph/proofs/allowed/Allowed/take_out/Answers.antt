@@ -5,9 +5,19 @@ use Rattle.colour_graph.proofs.Sets.{length-kept, marks_of-unmark}
 use Rattle.colour_graph.proofs.allowed.Allowed.take_out.Goals as goal
 
 pub unmark-requires : goal.unmark-requires
-unmark-requires c = omega (arith, ap (λ words. length words) c.deref_mut.ensures.value, length-kept _ _ _ c.self.view_is, c.self.invariant)
+unmark-requires c =
+    omega (
+      arith,
+      ap (λ words. length words) c.deref_mut.ensures.value,
+      length-kept _ _ _ c.self.view_is,
+      c.self.invariant,
+    )
 
 pub returns : goal.returns
-returns c = marks_of-unmark c.self.inside.words.items _ c.self.inside.count c.args.edge c.args.self.now c.self.view_is c.requires
-    (λ other. ap (λ words. is_marked words other) (with_items_is c.self.inside.words c.unmark.new.words (omega (arith, c.deref_mut.ensures.len)))
-    ∙ c.unmark.ensures other ∙ ap (λ words. not (eqb other c.args.edge) && is_marked words other) c.deref_mut.ensures.value)
+returns c =
+    marks_of-unmark c.self.inside.words.items _ c.self.inside.count c.args.edge c.args.self.now c.self.view_is
+    c.requires
+    (λ other. ap (λ words. is_marked words other)
+    (with_items_is c.self.inside.words c.unmark.new.words (omega (arith, c.deref_mut.ensures.len)))
+    ∙ c.unmark.ensures other ∙ ap (λ words. not (eqb other c.args.edge) && is_marked words other)
+    c.deref_mut.ensures.value)

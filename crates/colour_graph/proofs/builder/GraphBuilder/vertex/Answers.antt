@@ -6,7 +6,13 @@ use Rattle.colour_graph.proofs.builder.GraphBuilder.vertex.Goals.{then-len-from+
 
 pub invariant_of-self-2 : goal.invariant_of-self-2
 invariant_of-self-2 c =
-    let graph : Graph = record { root_score = c.self.inside.root_score; colours = c.self.inside.colours.items; edges = c.self.inside.edges.items } in
+    let graph : Graph =
+    record {
+      root_score = c.self.inside.root_score;
+      colours = c.self.inside.colours.items;
+      edges =
+          c.self.inside.edges.items;
+    } in
     let not_before = rw (← c.self.view_is) at c.requires.not_before in
     let no_gap = rw (← c.self.view_is) at c.requires.no_gap in
     let room = rw (← c.self.view_is) at c.requires.room in
@@ -16,7 +22,17 @@ invariant_of-self-2 c =
         is,
         ends-suffice graph c.args.colour (length w.push.new.self.items) (
             let few : length c.self.inside.ends.items < c.args.colour + 1 = omega (arith, w.if-len-from.true) in
-            omega (arith, w.in_ok-push.ensures.len, end-added (colour_count graph) c.args.colour (length c.self.inside.ends.items) c.self.invariant.1 (omega (arith, few)) no_gap)),
+            omega (
+              arith,
+              w.in_ok-push.ensures.len,
+              end-added (colour_count graph) c.args.colour
+                  (length c.self.inside.ends.items) c.self.invariant.1 (omega (arith, few)) no_gap,
+            )),
       )
-      | else-len-from w ↦ rw w.self-inside-is (is, ends-suffice graph c.args.colour (length c.self.inside.ends.items) (omega (arith, w.if-len-from.false)))
+      | else-len-from w ↦
+          rw w.self-inside-is (
+            is,
+            ends-suffice graph c.args.colour (length c.self.inside.ends.items)
+                (omega (arith, w.if-len-from.false)),
+          )
     ])

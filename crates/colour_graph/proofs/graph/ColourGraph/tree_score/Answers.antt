@@ -9,11 +9,16 @@ loop-edge-preserved c =
     let weight : ℤ = c.edge_at.result.weight in
     let is = c.edge_at.ensures.is_edge.weight in
     let out_is = c.from-score-in-loop-edge.ensures ∙ to_z-of_z w32 weight (SFits-score weight is) in
-    let sum_is = added (to_z w64 c.loop-edge.score-bits) weight c.from-score-in-loop-edge.result c.loop-edge.edge-index c.loop-edge.invariant.near is out_is
+    let sum_is =
+    added (to_z w64 c.loop-edge.score-bits) weight c.from-score-in-loop-edge.result c.loop-edge.edge-index
+    c.loop-edge.invariant.near is out_is
     (record { sfits = c.from-score-in-loop-edge.type_inv }) (omega arith) in
     record {
       so_far = sum_is ∙ ap (λ so_far. so_far +ℤ weight) c.loop-edge.invariant.so_far
-          ∙ ap (λ edge. score_of c.args.self.now (take c.loop-edge.edge-index c.args.edges.now) +ℤ edge.weight) c.edge_at.ensures.edge
+          ∙ ap (λ edge. score_of c.args.self.now (take c.loop-edge.edge-index c.args.edges.now) +ℤ edge.weight)
+          c.edge_at.ensures.edge
           ∙ sym (score_of-more c.args.self.now c.args.edges.now c.loop-edge.edge-index c.loop-edge-test.true);
-      near = rw sum_is (IsNear-more (to_z w64 c.loop-edge.score-bits) weight c.loop-edge.edge-index c.loop-edge.invariant.near is);
+      near =
+          rw sum_is (IsNear-more (to_z w64 c.loop-edge.score-bits) weight c.loop-edge.edge-index
+          c.loop-edge.invariant.near is);
     }

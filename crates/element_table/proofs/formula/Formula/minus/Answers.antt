@@ -9,4 +9,5 @@ returns c =
     loss_from_places _ _ _
     (omega (arith, ap length whole, ap length part, c.self.invariant.places, c.part.invariant.places))
     (omega (arith, ap length whole, c.self.invariant.places))
-    (λ place within. c.loop-place.invariant.0 place (omega arith) ∙ ap (λ counts. get_or c.args.self.now place 0 - get_or counts place 0) part)
+    (λ place within. c.loop-place.invariant.0 place (omega arith)
+    ∙ ap (λ counts. get_or c.args.self.now place 0 - get_or counts place 0) part)

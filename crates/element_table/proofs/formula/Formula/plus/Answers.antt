@@ -9,4 +9,5 @@ returns c =
     union_from_places _ _ _
     (omega (arith, ap length one, ap length two, c.self.invariant.places, c.other.invariant.places))
     (omega (arith, ap length one, c.self.invariant.places))
-    (λ place within. c.loop-place.invariant.0 place (omega arith) ∙ ap (λ counts. get_or c.args.self.now place 0 + get_or counts place 0) two)
+    (λ place within. c.loop-place.invariant.0 place (omega arith)
+    ∙ ap (λ counts. get_or c.args.self.now place 0 + get_or counts place 0) two)

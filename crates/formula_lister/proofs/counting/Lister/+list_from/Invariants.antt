@@ -9,6 +9,7 @@ decreases-list_from g l = length l.elements.now
 
 abbrev pub invariant-loop-count : goal.invariant-loop-count
 invariant-loop-count g l = record {
-  gained : Gains (CompletesBelow l.self.bounds l.self.sieve.now.rules.items l.first l.others l.chosen.formula l.count) l.fn.list.items l.list.items;
+  gained : Gains (CompletesBelow l.self.bounds l.self.sieve.now.rules.items l.first l.others l.chosen.formula l.count)
+      l.fn.list.items l.list.items;
   few : length l.list.items ≤ greatest_list;
 }

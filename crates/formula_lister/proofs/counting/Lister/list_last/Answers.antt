@@ -10,14 +10,18 @@ use Rattle.formula_lister.proofs.Pairs.{Completes-fits, Completes-from_one, one_
 use Rattle.formula_lister.proofs.counting.Lister.list_last.Goals as goal
 
 -- the atoms that are computed are those of the rest
-computed_rest : (bounds : Bounds) (next last : Element) (chosen : List ℕ) (mass count over : ℕ) → mass ≡ mass_of chosen → IsLeftOver bounds next last chosen count over → IsRest bounds next last chosen count ((bounds.most - mass - count * next.mass) / last.mass) over
+computed_rest : (bounds : Bounds) (next last : Element) (chosen : List ℕ) (mass count over : ℕ) → mass ≡ mass_of chosen
+    → IsLeftOver bounds next last chosen count over
+    → IsRest bounds next last chosen count ((bounds.most - mass - count * next.mass) / last.mass) over
 computed_rest bounds next last chosen mass count over weighed left =
     let rest = bounds.most - mass - count * next.mass in
     let some : 0 < last.mass = omega (arith, left.rest.small) in
     let parts : rest ≡ left.atoms * last.mass + over = omega (arith, left.rest.parts) in
     let divided : rest ≡ rest / last.mass * last.mass + rest % last.mass = omega arith in
     let less : rest % last.mass < last.mass = omega arith in
-    let is : left.atoms ≡ rest / last.mass = same_atoms last.mass left.atoms over (rest / last.mass) (rest % last.mass) left.rest.small less (omega (arith, parts, divided)) in
+    let is : left.atoms ≡ rest / last.mass =
+    same_atoms last.mass left.atoms over (rest / last.mass) (rest % last.mass) left.rest.small less
+    (omega (arith, parts, divided)) in
     record {
       ready = left.rest.ready;
       within_limit = left.rest.within_limit;
@@ -34,7 +38,9 @@ returns-then-over-self-clause-gains g c =
     let chosen = c.args.chosen.now.formula in
     Gains-none (Completes bounds rules (last ∷ []) (slice_set chosen next.place c.args.count)) c.args.list.now.items
     (λ counts completes.
-    let fit = Completes-fits bounds rules next last chosen c.args.count c.requires.left.atoms c.args.over counts c.requires.left.rest completes in
+    let fit =
+    Completes-fits bounds rules next last chosen c.args.count c.requires.left.atoms c.args.over counts
+    c.requires.left.rest completes in
     absurd (omega (arith, fit.fits)))
 
 pub returns-then-atoms-pair-clause-gains : goal.returns-then-atoms-pair-clause-gains
@@ -44,8 +50,11 @@ returns-then-atoms-pair-clause-gains g c =
     let next = c.args.pair.now.next in
     let last = c.args.pair.now.last in
     let chosen = c.args.chosen.now in
-    let rest = computed_rest bounds next last chosen.formula chosen.mass c.args.count c.args.over chosen.weighed.weighed c.requires.left in
-    Gains-none (Completes bounds rules (last ∷ []) (slice_set chosen.formula next.place c.args.count)) c.args.list.now.items
+    let rest =
+    computed_rest bounds next last chosen.formula chosen.mass c.args.count c.args.over chosen.weighed.weighed
+    c.requires.left in
+    Gains-none (Completes bounds rules (last ∷ []) (slice_set chosen.formula next.place c.args.count))
+    c.args.list.now.items
     (λ counts completes.
     let fit = Completes-fits bounds rules next last chosen.formula c.args.count _ c.args.over counts rest completes in
     absurd (omega (arith, fit.within_limit)))
@@ -60,13 +69,20 @@ returns-clause-gains g c =
     let further = slice_set chosen.formula next.place c.args.count in
     let atoms = (bounds.most - chosen.mass - c.args.count * next.mass) / last.mass in
     let whole = slice_set further last.place atoms in
-    let rest = computed_rest bounds next last chosen.formula chosen.mass c.args.count c.args.over chosen.weighed.weighed c.requires.left in
-    let is : c.with.result ≡ whole = c.with.ensures ∙ ap (λ (f : List ℕ). slice_set f last.place atoms) c.with-formula.ensures in
-    let gained : OnOk c.add.result (Gains (IsOne rules whole) c.args.list.now.items c.add.new.list.items) = rw is at c.add.ensures.gains in
+    let rest =
+    computed_rest bounds next last chosen.formula chosen.mass c.args.count c.args.over chosen.weighed.weighed
+    c.requires.left in
+    let is : c.with.result ≡ whole =
+    c.with.ensures ∙ ap (λ (f : List ℕ). slice_set f last.place atoms) c.with-formula.ensures in
+    let gained : OnOk c.add.result (Gains (IsOne rules whole) c.args.list.now.items c.add.new.list.items) =
+    rw is at c.add.ensures.gains in
     on_ok_weaker c.add.result
-    (λ gains. Gains-as (IsOne rules whole) (Completes bounds rules (last ∷ []) further) c.args.list.now.items c.add.new.list.items gains
-    (λ counts one. Completes-from_one bounds rules next last chosen.formula c.args.count atoms c.args.over counts rest c.if-atoms-pair.false c.if-over-self.false one)
-    (λ counts completes. one_from_Completes bounds rules next last chosen.formula c.args.count atoms c.args.over counts rest completes))
+    (λ gains. Gains-as (IsOne rules whole) (Completes bounds rules (last ∷ []) further) c.args.list.now.items
+    c.add.new.list.items gains
+    (λ counts one. Completes-from_one bounds rules next last chosen.formula c.args.count atoms c.args.over counts rest
+    c.if-atoms-pair.false c.if-over-self.false one)
+    (λ counts completes. one_from_Completes bounds rules next last chosen.formula c.args.count atoms c.args.over counts
+    rest completes))
     gained
 
 pub returns-clause-too_many : goal.returns-clause-too_many
@@ -79,8 +95,12 @@ returns-clause-too_many g c = λ fault.
     let further = slice_set chosen.formula next.place c.args.count in
     let atoms = (bounds.most - chosen.mass - c.args.count * next.mass) / last.mass in
     let whole = slice_set further last.place atoms in
-    let rest = computed_rest bounds next last chosen.formula chosen.mass c.args.count c.args.over chosen.weighed.weighed c.requires.left in
-    let is : c.with.result ≡ whole = c.with.ensures ∙ ap (λ (f : List ℕ). slice_set f last.place atoms) c.with-formula.ensures in
+    let rest =
+    computed_rest bounds next last chosen.formula chosen.mass c.args.count c.args.over chosen.weighed.weighed
+    c.requires.left in
+    let is : c.with.result ≡ whole =
+    c.with.ensures ∙ ap (λ (f : List ℕ). slice_set f last.place atoms) c.with-formula.ensures in
     let found : Overfills (IsOne rules whole) c.args.list.now.items = rw is at (c.add.ensures.too_many fault) in
     Overfills-as (IsOne rules whole) (Completes bounds rules (last ∷ []) further) c.args.list.now.items found
-    (λ counts one. Completes-from_one bounds rules next last chosen.formula c.args.count atoms c.args.over counts rest c.if-atoms-pair.false c.if-over-self.false one)
+    (λ counts one. Completes-from_one bounds rules next last chosen.formula c.args.count atoms c.args.over counts rest
+    c.if-atoms-pair.false c.if-over-self.false one)

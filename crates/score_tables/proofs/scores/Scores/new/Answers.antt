@@ -11,8 +11,12 @@ invariant_of-result c =
       right = record {
         intensity = c.requires.intensity;
         error = c.requires.error;
-        named = loss_table_after_sort c.args.named.items c.sort_losses.new.table.items c.requires.named c.sort_losses.ensures.moved c.sort_losses.ensures.rising;
-        implausible = loss_table_after_sort c.args.implausible.items c.sort_losses-2.new.table.items c.requires.implausible c.sort_losses-2.ensures.moved c.sort_losses-2.ensures.rising;
+        named =
+            loss_table_after_sort c.args.named.items c.sort_losses.new.table.items c.requires.named
+            c.sort_losses.ensures.moved c.sort_losses.ensures.rising;
+        implausible =
+            loss_table_after_sort c.args.implausible.items c.sort_losses-2.new.table.items c.requires.implausible
+            c.sort_losses-2.ensures.moved c.sort_losses-2.ensures.rising;
         radical = rw to_z-of_z c.requires.radical;
         negative = rw to_z-of_z c.requires.negative;
         not_small = c.requires.not_small;
