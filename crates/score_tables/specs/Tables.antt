@@ -33,7 +33,7 @@ pub record ScoresValue : Type 0 where
   -- the mass for which a loss costs one, in units of 10^-7 Da
   pub size : ℕ
 
--- no score is further from 0
+-- no score of a table is further from 0
 abbrev pub greatest_score : ℕ
 greatest_score = 2000
 

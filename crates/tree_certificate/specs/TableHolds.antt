@@ -32,13 +32,13 @@ number_of graph rows vertex set = number_at rows vertex (place_in graph vertex s
 
 -- A number is enough for a vertex and the set that has the next smaller colour beside these last ones: that colour is
 -- left out, or an edge into it is taken, whose head gets a part of the others.
-pub record IsHighEnough (graph : Graph) (rows : List (List ℤ)) (vertex : ℕ) (set : List Bool) (upper : ℤ)
+pub record IsHighEnough (graph : Graph) (rows : List (List ℤ)) (vertex : ℕ) (set : List Bool) (number : ℤ)
     : Type 0 where
-  pub left_out : number_of graph rows vertex set ≤ℤ upper
+  pub left_out : number_of graph rows vertex set ≤ℤ number
   pub taken : (edge : ℕ) → edge < length graph.edges → (edge_at graph edge).tail ≡ vertex
       → head_colour graph edge + length set ≡ colour_count graph → (part : List Bool) → IsPartOf part set
       → (((edge_at graph edge).weight +ℤ number_of graph rows (edge_at graph edge).head part)
-      +ℤ number_of graph rows vertex (without set part)) ≤ℤ upper
+      +ℤ number_of graph rows vertex (without set part)) ≤ℤ number
 
 -- The number of a vertex at a place is high enough: for no colour at least 0; for a set whose least colour stands
 -- before some last ones, enough for these.

@@ -156,14 +156,14 @@ complete known (kind ∷ kinds) tail values text good is =
     (values_at kinds tail value.1))) first.1
     ∙ ap (option_map (λ (vs : Values kinds tail). (capped_of kind values.0, vs))) others
 
-abbrev pub Reads : (kinds : List Kind) (tail : Tail) → List ℕ → Values kinds tail → Type 0
-Reads kinds tail text vs =
+abbrev pub TakesAll : (kinds : List Kind) (tail : Tail) → List ℕ → Values kinds tail → Type 0
+TakesAll kinds tail text vs =
     (values : Values kinds tail) × WritesFields (fields_of kinds tail values) text
     × (vs ≡ capped_values kinds tail values)
 
 title_sound : (byte : ℕ) (rest vs : List ℕ) (a b c : Bool) → is_space byte ≡ a → are_bytes (title_of rest) ≡ b
     → bytes_eq (escaped (title_of rest)) rest ≡ c
-    → cond (a && (b && c)) (Some (title_of rest)) None ≡ Some vs → Reads [] title_tail (byte ∷ rest) vs
+    → cond (a && (b && c)) (Some (title_of rest)) None ≡ Some vs → TakesAll [] title_tail (byte ∷ rest) vs
 title_sound byte rest vs false b c space bytes same read = (cc)
 title_sound byte rest vs true false c space bytes same read = (cc)
 title_sound byte rest vs true true false space bytes same read = (cc)
@@ -178,7 +178,7 @@ title_sound byte rest vs true true true space bytes same read =
     )
 
 numbers_tail_sound : (count most : ℕ) (text : List ℕ) (vs : List ℤ) (b : Bool) → eqb (length text) 0 ≡ b
-    → cond b None (numbers_at text) ≡ Some vs → Reads [] (numbers_tail false count most) text vs
+    → cond b None (numbers_at text) ≡ Some vs → TakesAll [] (numbers_tail false count most) text vs
 numbers_tail_sound count most text vs true empty read = (cc)
 numbers_tail_sound count most text vs false some read =
     let found = numbers_sound text vs read in
@@ -188,13 +188,13 @@ numbers_tail_sound count most text vs false some read =
     at_least [] text some writes = absurd (eqb-false (length text) 0 some (ap length writes))
     at_least (z ∷ zs) text some writes = omega arith
 
-tail_sound : (tail : Tail) (text : List ℕ) (vs : OfTail tail) → tail_at tail text ≡ Some vs → Reads [] tail text vs
+tail_sound : (tail : Tail) (text : List ℕ) (vs : OfTail tail) → tail_at tail text ≡ Some vs → TakesAll [] tail text vs
 tail_sound no_tail [] vs read = (tt, refl, refl)
 tail_sound no_tail (byte ∷ text) vs read =
     none (eqb (length (byte ∷ text)) 0) (ne_eqb (length (byte ∷ text)) 0 (λ e. omega arith)) read
   where
     none : (b : Bool) → b ≡ false → cond {A = Option (Unit {0})} b (Some tt) None ≡ Some vs
-        → Reads [] no_tail (byte ∷ text) vs
+        → TakesAll [] no_tail (byte ∷ text) vs
     none true is read = absurd (false≢true (sym is))
     none false is read = absurd (none-some vs read)
 tail_sound title_tail [] vs read = (cc)
@@ -211,15 +211,15 @@ tail_sound (naturals_tail count most) text vs read =
     (found.0, (text, [], sym (append-nil text), (found.1, found.2), refl), found.3)
 
 pub sound : Known → (kinds : List Kind) (tail : Tail) (text : List ℕ) (vs : Values kinds tail)
-    → values_at kinds tail text ≡ Some vs → Reads kinds tail text vs
+    → values_at kinds tail text ≡ Some vs → TakesAll kinds tail text vs
 sound known [] tail text vs read = tail_sound tail text vs read
 sound known (kind ∷ kinds) tail text vs read =
     step (value_at kind text) refl (λ rest others is. sound known kinds tail rest others is) read
   where
     inner : (v : Of kind) (rest : List ℕ) (o : Option (Values kinds tail)) → value_at kind text ≡ Some (v, rest)
         → values_at kinds tail rest ≡ o
-        → ((others : Values kinds tail) → values_at kinds tail rest ≡ Some others → Reads kinds tail rest others)
-        → option_map (λ (more : Values kinds tail). (v, more)) o ≡ Some vs → Reads (kind ∷ kinds) tail text vs
+        → ((others : Values kinds tail) → values_at kinds tail rest ≡ Some others → TakesAll kinds tail rest others)
+        → option_map (λ (more : Values kinds tail). (v, more)) o ≡ Some vs → TakesAll (kind ∷ kinds) tail text vs
     inner v rest None first told later read = (cc)
     inner v rest (Some others) first told later read =
         let front = value_sound known kind v text rest first in
@@ -229,9 +229,9 @@ sound known (kind ∷ kinds) tail text vs read =
 
     step : (o : Option (Of kind × List ℕ)) → value_at kind text ≡ o
         → ((rest : List ℕ) (others : Values kinds tail) → values_at kinds tail rest ≡ Some others
-        → Reads kinds tail rest others)
+        → TakesAll kinds tail rest others)
         → option_and_then (λ (value : Of kind × List ℕ). option_map (λ (more : Values kinds tail). (value.0, more))
-        (values_at kinds tail value.1)) o ≡ Some vs → Reads (kind ∷ kinds) tail text vs
+        (values_at kinds tail value.1)) o ≡ Some vs → TakesAll (kind ∷ kinds) tail text vs
     step None first later read = (cc)
     step (Some both) first later read = inner both.0 both.1 (values_at kinds tail both.1) first refl (later both.1) read
 

@@ -30,7 +30,7 @@ use Rattle.tree_document.specs.inside.Need.{too_many_shape, lists_shape, list_sh
 use Rattle.tree_document.specs.inside.Need.{too_large_shape, tree_shape, row_shape, table_shape, table_row_shape}
 use Rattle.tree_document.specs.inside.Need.{split_shape, prices_shape, potentials_shape, done_shape}
 use Rattle.tree_document.proofs.FieldKinds.{IsToken, Known, is_good_kind, to_token, token_no_space}
-use Rattle.tree_document.proofs.FieldValues.{Reads, are_good, are_in_range, capped_values, complete, fields_rest}
+use Rattle.tree_document.proofs.FieldValues.{TakesAll, are_good, are_in_range, capped_values, complete, fields_rest}
 use Rattle.tree_document.proofs.FieldValues.{ranges_kept, sound, value_complete, values_kept, values_text}
 use Rattle.tree_document.proofs.Tokens.{token_at-front}
 
@@ -98,7 +98,7 @@ shape_sound : Known → (need : Need) (shape : Shape) → IsShape need shape →
 shape_sound known need shape is text line read = step (behind_word shape.word text) refl read
   where
     made : (rest : List ℕ) (vs : Values shape.kinds shape.tail) → text ≡ shape.word ++ rest
-        → Reads shape.kinds shape.tail rest vs → shape.make vs ≡ line → ReadAs need text line
+        → TakesAll shape.kinds shape.tail rest vs → shape.make vs ≡ line → ReadAs need text line
     made rest vs split reads line_is =
         let capped : line ≡ shape.make (capped_values shape.kinds shape.tail reads.0) =
         sym line_is ∙ ap shape.make reads.2 in

@@ -7,6 +7,7 @@ use Rattle.std.specs.Fmt.{signed_decimal}
 use Rattle.std.specs.List.{flat_map, list_all}
 use Rattle.std.specs.Str.{all_ascii_digits}
 use Rattle.std.specs.Str.Parse.{digits_value}
+use Rattle.colour_graph.specs.Graph.{greatest_graph}
 use Rattle.element_table.specs.Formula.{IsFormula}
 use Rattle.element_table.specs.FormulaText.{formula_text}
 use Rattle.mgf_reader.specs.Fault.{kind_of_number, kind_text}
@@ -73,11 +74,11 @@ greatest_peak_number = 1000000000000000000
 -- vertices of a graph that is solved, and so rows of its table and its potentials; an entry's rows, the numbers of its
 -- lists, and its colours with their prices are no more
 abbrev pub greatest_rows : ℕ
-greatest_rows = 512
+greatest_rows = greatest_graph
 
 -- lists of a section
-abbrev pub greatest_lists : ℕ
-greatest_lists = 41
+abbrev pub greatest_section_lists : ℕ
+greatest_section_lists = 41
 
 -- formulas of a list, and entries of a section
 abbrev pub greatest_listed : ℕ
@@ -116,7 +117,7 @@ form_of (refused_line line kind) =
     form (codes "end") (a_word (codes "refused") ∷ a_number 0 greatest_line_number line ∷ a_kind kind ∷ [])
 form_of (spectrum_line line title) = form (codes "spectrum") (a_number 0 greatest_line_number line ∷ a_title title ∷ [])
 form_of (skip_line reason) = skip_form reason
-form_of (lists_line count) = form (codes "lists") (a_number 1 greatest_lists count ∷ [])
+form_of (lists_line count) = form (codes "lists") (a_number 1 greatest_section_lists count ∷ [])
 form_of (list_line mz intensity count) =
     form (codes "list") (a_number 0 greatest_peak_number mz ∷ a_number 0 greatest_peak_number intensity
     ∷ a_number 0 greatest_listed count ∷ [])

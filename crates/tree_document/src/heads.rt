@@ -18,6 +18,7 @@ use crate::laws::a_line_has_one_spelling;
 use crate::lines::{self, RowFields};
 use crate::ranges::{are_signed_within, is_signed_within, is_within};
 use crate::stop::Stop;
+use colour_graph::GREATEST_GRAPH;
 use element_table::Formula;
 use mgf_reader::Title;
 use std::alloc::{AllocError, Global};
@@ -38,7 +39,7 @@ const GREATEST_LISTS: u64 = 41;
 /// The greatest number of rows of a tree and of a table, of prices and of potentials, and the greatest number of a row,
 /// of
 /// a list and of a colour.
-pub const GREATEST_ROWS: u64 = 512;
+pub const GREATEST_ROWS: u64 = GREATEST_GRAPH as u64;
 
 /// The greatest number of numbers in a row of a table: one for each set of colours.
 const GREATEST_NUMBERS: u64 = 1 << GREATEST_COLOURS;

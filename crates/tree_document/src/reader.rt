@@ -11,7 +11,7 @@ ghost use Rattle.tree_document.specs.inside.Need.{need_row, need_sections, need_
 ghost use Rattle.tree_document.specs.Line.{done_line, entries_line};
 ghost use Rattle.tree_certificate.specs.Number.{AreNear, greatest_number, is_near};
 ghost use Rattle.tree_certificate.specs.Value.{cert_of};
-ghost use Rattle.tree_document.specs.inside.Taking.{Reads};
+ghost use Rattle.tree_document.specs.inside.Taking.{TakesAll};
 
 use crate::bound_lines::{BoundHead, bound_head, potentials_line};
 use crate::document::{Body, Document, Ending, FormulaLists, MgfEnd, Section, Sections, Solved};
@@ -55,7 +55,7 @@ macro_rules! read_counted {
 
 /// So many lines of formulas.
 fn read_formulas(alloc: Global, count: u64, bytes: &[u8]) -> Result<(Vec<Formula>, &[u8]), Stop<'_>>
-    ensures taken { Reads (replicate count need_formula) (λ items. map (λ counts. spec.formula_line counts) items.items)
+    ensures taken { TakesAll (replicate count need_formula) (λ items. map (λ counts. spec.formula_line counts) items.items)
         bytes.now result }
     ensures count { IfOk result (λ both. length both.0.items ≡ count) }
 {
@@ -64,7 +64,7 @@ fn read_formulas(alloc: Global, count: u64, bytes: &[u8]) -> Result<(Vec<Formula
 
 /// So many rows of a tree.
 fn read_rows(alloc: Global, count: u64, bytes: &[u8]) -> Result<(Vec<TreeRow>, &[u8]), Stop<'_>>
-    ensures taken { Reads (replicate count need_row) (λ items. map (λ it. spec.row_line it) items.items)
+    ensures taken { TakesAll (replicate count need_row) (λ items. map (λ it. spec.row_line it) items.items)
         bytes.now result }
     ensures count { IfOk result (λ both. length both.0.items ≡ count) }
 {
@@ -73,7 +73,7 @@ fn read_rows(alloc: Global, count: u64, bytes: &[u8]) -> Result<(Vec<TreeRow>, &
 
 /// A list of formulas.
 fn read_list(alloc: Global, bytes: &[u8]) -> Result<(FormulaList, &[u8]), Stop<'_>>
-    ensures { Reads (need_list ∷ []) (λ list. list_lines list) bytes.now result }
+    ensures { TakesAll (need_list ∷ []) (λ list. list_lines list) bytes.now result }
 {
     let ((mz, intensity, count), rest) = part!(list_head(bytes));
     let (formulas, rest) = part!(read_formulas(alloc, count, rest));
@@ -94,7 +94,7 @@ fn read_lists(
     count: u64,
     bytes: &[u8],
 ) -> Result<(Vec<FormulaList>, &[u8]), Stop<'_>>
-    ensures taken { Reads (replicate count need_list) (λ items. flat_map (λ list. list_lines list) items.items)
+    ensures taken { TakesAll (replicate count need_list) (λ items. flat_map (λ list. list_lines list) items.items)
         bytes.now result }
     ensures count { IfOk result (λ both. length both.0.items ≡ count) }
 {
@@ -107,7 +107,7 @@ fn read_table_rows(
     count: u64,
     bytes: &[u8],
 ) -> Result<(Vec<Vec<i64>>, &[u8]), Stop<'_>>
-    ensures taken { Reads (replicate count need_table_row)
+    ensures taken { TakesAll (replicate count need_table_row)
         (λ items. map (λ row. spec.table_row_line row.items) items.items) bytes.now result }
     ensures numbers { IfOk result
         (λ both. IsTrue (list_all (λ row. list_all (is_near greatest_number) row.items) both.0.items)) }
@@ -118,7 +118,7 @@ fn read_table_rows(
 
 /// A certificate.
 fn read_cert(alloc: Global, bytes: &[u8]) -> Result<(Cert, &[u8]), Stop<'_>>
-    ensures { Reads (need_cert ∷ []) (λ cert. cert_lines (cert_of cert)) bytes.now result }
+    ensures { TakesAll (need_cert ∷ []) (λ cert. cert_lines (cert_of cert)) bytes.now result }
 {
     let Some((count, rest)) = part!(table_head(bytes)) else {
         let (bound, rest) = part!(read_bound(alloc, 0, bytes));
@@ -130,7 +130,7 @@ fn read_cert(alloc: Global, bytes: &[u8]) -> Result<(Cert, &[u8]), Stop<'_>>
 
 /// A bound under so many splits.
 fn read_bound(alloc: Global, under: u32, bytes: &[u8]) -> Result<(Bound, &[u8]), Stop<'_>>
-    ensures { Reads (need_bound under ∷ []) (λ bound. bound_lines under (bound_value bound)) bytes.now result }
+    ensures { TakesAll (need_bound under ∷ []) (λ bound. bound_lines under (bound_value bound)) bytes.now result }
 {
     let (head, rest) = part!(bound_head(alloc, under, bytes));
     match head {
@@ -156,7 +156,7 @@ fn read_potentials(
     bytes: &[u8],
 ) -> Result<(PriceCert, &[u8]), Stop<'_>>
     requires { AreNear prices.items }
-    ensures taken { Reads (need_potentials ∷ []) (λ cert. spec.potentials_line cert.potentials ∷ []) bytes.now result }
+    ensures taken { TakesAll (need_potentials ∷ []) (λ cert. spec.potentials_line cert.potentials ∷ []) bytes.now result }
     ensures prices { IfOk result (λ both. both.0.prices ≡ prices.items) }
 {
     let (potentials, rest) = part!(potentials_line(alloc, bytes));
@@ -177,7 +177,7 @@ fn edges_of(alloc: Global, edges: Vec<u64>) -> Result<Items<u32>, AllocError>
 
 /// An entry.
 fn read_entry(alloc: Global, bytes: &[u8]) -> Result<(Entry, &[u8]), Stop<'_>>
-    ensures { Reads (need_entry ∷ []) (λ entry. entry_lines entry) bytes.now result }
+    ensures { TakesAll (need_entry ∷ []) (λ entry. entry_lines entry) bytes.now result }
 {
     let (head, rest) = part!(entry_head(bytes));
     match head {
@@ -223,7 +223,7 @@ fn tree_of(score: i64, upper: i64, mark: Mark, rows: Vec<TreeRow>, cert: Cert) -
 
 /// So many entries.
 fn read_entries(alloc: Global, count: u64, bytes: &[u8]) -> Result<(Vec<Entry>, &[u8]), Stop<'_>>
-    ensures taken { Reads (replicate count need_entry) (λ items. flat_map (λ entry. entry_lines entry) items.items)
+    ensures taken { TakesAll (replicate count need_entry) (λ items. flat_map (λ entry. entry_lines entry) items.items)
         bytes.now result }
     ensures count { IfOk result (λ both. length both.0.items ≡ count) }
 {
@@ -232,7 +232,7 @@ fn read_entries(alloc: Global, count: u64, bytes: &[u8]) -> Result<(Vec<Entry>, 
 
 /// The body of a section.
 fn read_body(alloc: Global, bytes: &[u8]) -> Result<(Body, &[u8]), Stop<'_>>
-    ensures { Reads (need_body ∷ []) (λ body. body_lines body) bytes.now result }
+    ensures { TakesAll (need_body ∷ []) (λ body. body_lines body) bytes.now result }
 {
     let (head, rest) = part!(body_head(bytes));
     match head {
@@ -251,7 +251,7 @@ fn read_solved(
     lists: Vec<FormulaList>,
     bytes: &[u8],
 ) -> Result<(Solved, &[u8]), Stop<'_>>
-    ensures taken { Reads (need_entries ∷ [])
+    ensures taken { TakesAll (need_entries ∷ [])
         (λ solved. entries_line (length solved.entries) ∷ flat_map entry_lines solved.entries) bytes.now result }
     ensures lists { IfOk result (λ both. both.0.lists ≡ lists.items) }
 {
@@ -269,7 +269,7 @@ fn read_section(
     title: Title,
     bytes: &[u8],
 ) -> Result<(Section, &[u8]), Stop<'_>>
-    ensures taken { Reads (need_body ∷ need_done ∷ []) (λ section. body_lines section.body ++ done_line ∷ [])
+    ensures taken { TakesAll (need_body ∷ need_done ∷ []) (λ section. body_lines section.body ++ done_line ∷ [])
         bytes.now result }
     ensures line { IfOk result (λ both. both.0.line ≡ line) }
     ensures title { IfOk result (λ both. both.0.title ≡ title) }
@@ -281,7 +281,7 @@ fn read_section(
 
 /// The sections of a document and its ending.
 fn read_sections(alloc: Global, bytes: &[u8]) -> Result<(Document, &[u8]), Stop<'_>>
-    ensures { Reads (need_sections ∷ [])
+    ensures { TakesAll (need_sections ∷ [])
         (λ document. flat_map section_lines document.sections ++ ending_line document.ending ∷ []) bytes.now result }
 {
     let mut sections = Vec::new(alloc);
@@ -317,7 +317,7 @@ fn document_of(sections: Vec<Section>, ending: Ending) -> Document
 
 /// A document, and the bytes behind its end line.
 pub fn read_all(alloc: Global, bytes: &[u8]) -> Result<(Document, &[u8]), Stop<'_>>
-    ensures { Reads (need_document ∷ []) (λ document. lines_of document) bytes.now result }
+    ensures { TakesAll (need_document ∷ []) (λ document. lines_of document) bytes.now result }
 {
     let (_, rest) = part!(document_head(bytes));
     let (document, rest) = part!(read_sections(alloc, rest));

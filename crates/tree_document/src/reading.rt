@@ -13,7 +13,7 @@ use crate::reader::read_all;
 use crate::stop::Stop;
 use std::alloc::Global;
 
-/// Reads a document: the one whose spelling the bytes are, else the first refusal.
+/// TakesAll a document: the one whose spelling the bytes are, else the first refusal.
 pub fn read_document(alloc: Global, bytes: &[u8]) -> Result<Document, DocumentError>
     requires { length bytes.now ≤ greatest_document }
     ensures answer { IsAnswer bytes.now result }

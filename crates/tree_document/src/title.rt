@@ -31,7 +31,7 @@ fn is_spelling(alloc: Global, title: &[u8], spelled: &[u8]) -> Result<bool, Allo
     ensures { IfOk result (λ same. same ≡ (are_bytes title.now && bytes_eq (escaped title.now) spelled.now)) }
 {
     let mut again = Vec::new(alloc);
-    push_escaped(&mut again, title)?;
+    push_spelling(&mut again, title)?;
     Ok(again.as_slice() == spelled)
 }
 
@@ -77,7 +77,7 @@ fn nibble(digit: u8) -> u8
 }
 
 /// Appends a title, its bytes that are not printed by their numbers.
-pub fn push_escaped(text: &mut Vec<u8>, title: &[u8]) -> Result<(), AllocError>
+pub fn push_spelling(text: &mut Vec<u8>, title: &[u8]) -> Result<(), AllocError>
     ensures { OnOk result (text.new.items ≡ text.old.items ++ escaped title.now) }
 {
     for byte in title {

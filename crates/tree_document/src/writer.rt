@@ -11,7 +11,7 @@ ghost use Rattle.tree_document.specs.Line as spec;
 use crate::bound_writer::push_bound;
 use crate::document::{Body, Ending, Section, Skip, Solved};
 use crate::entry::{Entry, Mark, Outcome, Tree, TreeRow};
-use crate::title::push_escaped;
+use crate::title::push_spelling;
 use element_table::{Formula, FormulaList, print_formula};
 use itoa::Buffer;
 use mgf_reader::MgfKind;
@@ -26,13 +26,17 @@ pub fn write_header() -> &'static [u8]
 }
 
 /// Appends the line of a spectrum: the line of its `BEGIN IONS` and its title.
-pub fn push_spectrum(text: &mut Vec<u8>, line: u32, title: &[u8]) -> Result<(), AllocError>
+pub(crate) fn push_spectrum_line(
+    text: &mut Vec<u8>,
+    line: u32,
+    title: &[u8],
+) -> Result<(), AllocError>
     ensures { OnOk result (text.new.items ≡ text.old.items ++ text_of (spec.spectrum_line line title.now ∷ [])) }
 {
     text.extend_from_slice(b"spectrum")?;
     push_number(text, u64::from(line))?;
     text.push(b' ')?;
-    push_escaped(text, title)?;
+    push_spelling(text, title)?;
     text.push(b'\n')?;
     Ok(())
 }
@@ -206,7 +210,10 @@ fn push_list(text: &mut Vec<u8>, list: &FormulaList) -> Result<(), AllocError>
 }
 
 /// Appends the line that counts some lists, and their lines.
-pub fn push_lists(text: &mut Vec<u8>, lists: &[FormulaList]) -> Result<(), AllocError>
+pub(crate) fn push_counted_lists(
+    text: &mut Vec<u8>,
+    lists: &[FormulaList],
+) -> Result<(), AllocError>
     ensures { OnOk result (text.new.items ≡ text.old.items
         ++ text_of (spec.lists_line (length lists.now) ∷ flat_map list_lines lists.now)) }
 {
@@ -248,7 +255,7 @@ fn push_table_rows(text: &mut Vec<u8>, rows: &[Vec<i64>]) -> Result<(), AllocErr
 }
 
 /// Appends the line that says why a spectrum was skipped.
-pub fn push_skip(text: &mut Vec<u8>, reason: &Skip) -> Result<(), AllocError>
+pub(crate) fn push_reason(text: &mut Vec<u8>, reason: &Skip) -> Result<(), AllocError>
     ensures { OnOk result (text.new.items ≡ text.old.items ++ text_of (spec.skip_line reason.now ∷ [])) }
 {
     match reason {
@@ -328,7 +335,7 @@ fn push_table(text: &mut Vec<u8>, rows: &[Vec<i64>]) -> Result<(), AllocError>
 }
 
 /// Appends the line that ends a section.
-pub fn push_done(text: &mut Vec<u8>) -> Result<(), AllocError>
+pub(crate) fn push_done_line(text: &mut Vec<u8>) -> Result<(), AllocError>
     ensures { OnOk result (text.new.items ≡ text.old.items ++ text_of (spec.done_line ∷ [])) }
 {
     text.extend_from_slice(b"done\n")?;
@@ -426,7 +433,7 @@ fn push_solved(text: &mut Vec<u8>, solved: &Solved) -> Result<(), AllocError>
         ++ text_of ((spec.lists_line (length solved.now.lists) ∷ flat_map list_lines solved.now.lists)
         ++ spec.entries_line (length solved.now.entries) ∷ flat_map entry_lines solved.now.entries)) }
 {
-    push_lists(text, solved.lists.items())?;
+    push_counted_lists(text, solved.lists.items())?;
     push_entries(text, solved.entries.items())?;
     Ok(())
 }
@@ -436,7 +443,7 @@ fn push_body(text: &mut Vec<u8>, body: &Body) -> Result<(), AllocError>
     ensures { OnOk result (text.new.items ≡ text.old.items ++ text_of (body_lines body.now)) }
 {
     match body {
-        Body::Skipped(reason) => push_skip(text, reason)?,
+        Body::Skipped(reason) => push_reason(text, reason)?,
         Body::Solved(solved) => push_solved(text, solved)?,
     }
     Ok(())
@@ -447,8 +454,8 @@ pub fn write_section(alloc: Global, section: &Section) -> Result<Vec<u8>, AllocE
     ensures { IfOk result (λ text. text.items ≡ text_of (section_lines section.now)) }
 {
     let mut text = Vec::new(alloc);
-    push_spectrum(&mut text, section.line, section.title.items())?;
+    push_spectrum_line(&mut text, section.line, section.title.items())?;
     push_body(&mut text, &section.body)?;
-    push_done(&mut text)?;
+    push_done_line(&mut text)?;
     Ok(text)
 }

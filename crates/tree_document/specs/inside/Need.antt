@@ -8,7 +8,7 @@ use Rattle.tree_document.specs.Line.{Line, header_line, clean_line, refused_line
 use Rattle.tree_document.specs.Line.{list_line, formula_line, entries_line, too_large_line, tree_line, row_line}
 use Rattle.tree_document.specs.Line.{table_line, table_row_line, split_line, prices_line, potentials_line, done_line}
 use Rattle.tree_document.specs.Line.{greatest_edge, greatest_edges, greatest_error, greatest_line_number}
-use Rattle.tree_document.specs.Line.{greatest_listed, greatest_lists, greatest_numbers, greatest_peak_number}
+use Rattle.tree_document.specs.Line.{greatest_listed, greatest_section_lists, greatest_numbers, greatest_peak_number}
 use Rattle.tree_document.specs.Line.{greatest_rows, greatest_weight}
 use Rattle.tree_document.specs.inside.Field.{Kind, word_kind, number_kind, signed_kind, formula_kind, mark_kind}
 use Rattle.tree_document.specs.inside.Field.{kind_kind, Tail, no_tail, title_tail, numbers_tail, naturals_tail, Values}
@@ -130,7 +130,7 @@ too_many_shape = record {
 abbrev pub lists_shape : Shape
 lists_shape = record {
   word = codes "lists";
-  kinds = number_kind 1 greatest_lists ∷ [];
+  kinds = number_kind 1 greatest_section_lists ∷ [];
   tail = no_tail;
   make = λ values. lists_line values.0;
 }

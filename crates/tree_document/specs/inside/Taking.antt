@@ -23,9 +23,9 @@ Takes need line bytes (Ok both) =
 Takes need line bytes (Err stop) = StopsAs (need ∷ []) bytes stop
 
 -- all lines for some needs are taken
-abbrev pub Reads : {X : Type 0} → List Need → (X → List Line) → List ℕ → Result (X × Bor (List ℕ)) Stop → Type 0
-Reads needs lines bytes (Ok both) = Took needs [] (lines both.0) bytes both.1.now
-Reads needs lines bytes (Err stop) = StopsAs needs bytes stop
+abbrev pub TakesAll : {X : Type 0} → List Need → (X → List Line) → List ℕ → Result (X × Bor (List ℕ)) Stop → Type 0
+TakesAll needs lines bytes (Ok both) = Took needs [] (lines both.0) bytes both.1.now
+TakesAll needs lines bytes (Err stop) = StopsAs needs bytes stop
 
 -- where a certificate is needed, the line of a table is taken, or the same as for a bound has to stand there
 abbrev pub TakesTable : List ℕ → Result (Option (ℕ × Bor (List ℕ))) Stop → Type 0

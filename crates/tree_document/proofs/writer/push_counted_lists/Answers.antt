@@ -2,7 +2,7 @@ use Rattle.std.proofs.Common.{length}
 use Rattle.tree_document.specs.Document.{list_lines}
 use Rattle.tree_document.specs.Line as spec
 use Rattle.tree_document.proofs.TextOf.{head_and_groups}
-use Rattle.tree_document.proofs.writer.push_lists.Goals as goal
+use Rattle.tree_document.proofs.writer.push_counted_lists.Goals as goal
 
 pub returns : goal.returns
 returns c = head_and_groups c.args.text.now.items c.push_counted.new.text.items c.push_each_list.new.text.items
