@@ -3,7 +3,7 @@ ghost use Rattle.std.specs.Prelude.{◌≡◌, ◌≤◌, ◌^◌};
 ghost use Rattle.element_table.specs.Window.{greatest_half_width, half_width_of, window_of};
 
 use crate::adduct::{Adduct, neutral};
-use crate::mass_window::Window;
+use element_table::Window;
 
 /// Half the width of a window is at most 0.2 Da.
 const GREATEST_HALF_WIDTH: u128 = 2_000_000;

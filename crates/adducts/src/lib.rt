@@ -5,7 +5,6 @@ mod adduct;
 mod choice;
 mod fitting;
 mod laws;
-mod mass_window;
 mod outcome;
 mod selection;
 #[cfg(test)]
@@ -15,6 +14,5 @@ pub use adduct::{Adduct, by_name, neutral};
 pub use choice::{Choice, half_width, window};
 pub use fitting::{GREATEST_NEUTRAL_MASS, fit};
 pub use laws::{selected_peaks_stand_apart, there_is_one_selection};
-pub use mass_window::Window;
 pub use outcome::Fit;
 pub use selection::select_peaks;

@@ -2,14 +2,15 @@
 use Rattle.std.proofs.Common.{◌≡◌, ◌+◌, ◌*◌, ◌-◌, ◌<◌, ◌≤◌, ◌⊎◌, inl, inr, ℕ, zero, suc, pos, length, get_or, arith}
 use Rattle.std.proofs.lemmas.Bool.{cases_eq, cases_lt}
 use Rattle.colour_graph.specs.declared.edge.Edge.{Edge}
-use Rattle.colour_graph.specs.Graph.{Graph, HasColours, IsGraph, StandsBefore, colour_count, colour_of, edge_at, head_colour}
+use Rattle.colour_graph.specs.Graph.{Graph, HasColours, IsGraph, StandsBefore, colour_count, colour_of, edge_at}
+use Rattle.colour_graph.specs.Graph.{greatest_vertices, head_colour}
 use Rattle.colour_graph.specs.inside.Index.{CanIndex}
 
 -- a number for a head and a tail, which rises with the order of edges
 abbrev rank_of : Edge → ℕ
-rank_of edge = edge.head * 4096 + edge.tail
+rank_of edge = edge.head * greatest_vertices + edge.tail
 
-rises : (first later : Edge) → first.tail < 4096 → StandsBefore first later → rank_of first < rank_of later
+rises : (first later : Edge) → first.tail < greatest_vertices → StandsBefore first later → rank_of first < rank_of later
 rises first later low before = choose (cases_eq first.head later.head)
   where
     heads : first.head ≤ later.head

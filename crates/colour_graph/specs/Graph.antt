@@ -28,6 +28,10 @@ head_colour graph edge = colour_of graph (edge_at graph edge).head
 abbrev pub greatest_vertices : ℕ
 greatest_vertices = 4096
 
+-- how many vertices a graph may have of which a tree is sought
+abbrev pub greatest_graph : ℕ
+greatest_graph = 512
+
 -- a root score or a weight: at most 100,000 away from 0
 pub record IsScore (score : ℤ) : Type 0 where
   pub not_below : negsuc 99999 ≤ℤ score

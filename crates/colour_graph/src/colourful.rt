@@ -8,10 +8,10 @@ ghost use Rattle.colour_graph.specs.inside.Heads.{AreApart, AreHeads, IsMarkedTa
 
 use crate::bits::{is_marked, mark};
 use crate::edge::EdgeId;
-use crate::graph::ColourGraph;
+use crate::graph::{ColourGraph, GREATEST_VERTICES};
 
 /// How many words have a bit for each vertex of a graph, and for each colour.
-const WORDS: usize = 64;
+const WORDS: usize = GREATEST_VERTICES / 64;
 
 impl ColourGraph {
     /// Whether the heads of a list of edges, in any order, have different colours and each tail is the root or a head.

@@ -7,6 +7,12 @@ use crate::edge::{Colour, Edge, EdgeId, VertexId};
 use crate::index::index_of;
 use std::marker::Model;
 
+/// How many vertices a graph may have.
+pub(crate) const GREATEST_VERTICES: usize = 4_096;
+
+/// How many vertices a graph may have of which a tree is sought.
+pub const GREATEST_GRAPH: u32 = 512;
+
 /// A graph whose vertices have colours. Vertex 0 is the root and alone has colour 0; the other vertices stand in order
 /// of their colours, 1 to k without a gap, and there are at most 4,096 in all. The edges stand by their heads, then by
 /// their tails, each once and each to a greater colour. The root's score and each weight are within 100,000 of 0.

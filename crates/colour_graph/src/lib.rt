@@ -15,5 +15,5 @@ mod tests;
 pub use allowed::Allowed;
 pub use builder::GraphBuilder;
 pub use edge::{Colour, Edge, EdgeId, VertexId};
-pub use graph::ColourGraph;
+pub use graph::{ColourGraph, GREATEST_GRAPH};
 pub use laws::a_best_list_is_maximal;

@@ -7,9 +7,7 @@ ghost use Rattle.formula_lister.specs.inside.Elements.{IsKnown};
 ghost use Rattle.formula_lister.specs.inside.Weights.{IsWeighed};
 
 use crate::element::Element;
-use adducts::Window;
-use element_table::Formula;
-use profile::Limits;
+use element_table::{Formula, Limits, Window};
 
 /// The masses and the counts that a listed formula may have, both ends of the masses included, in units of 10^-7 Da.
 #[derive(Clone, Copy)]

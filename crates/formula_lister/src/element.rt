@@ -3,8 +3,7 @@ ghost use Rattle.std.specs.Prelude.{◌≡◌, ◌≤◌, ◌<◌, ◌+◌, ◌*
 ghost use Rattle.element_table.specs.Elements.{formula_places};
 ghost use Rattle.formula_lister.specs.inside.Elements.{AreElements, IsUncounted, IsKnown};
 
-use element_table::{ELEMENTS, mass_at};
-use profile::Limits;
+use element_table::{ELEMENTS, Limits, mass_at};
 use std::alloc::{AllocError, Global};
 
 /// An element that is counted.

@@ -8,9 +8,7 @@ use crate::chosen::{Bounds, Chosen};
 use crate::counting::Lister;
 use crate::element::counted_elements;
 use crate::outcome::ListFault;
-use adducts::Window;
-use element_table::{Formula, sorted_formulas_rise, the_list_is_a_filter};
-use profile::Limits;
+use element_table::{Formula, Limits, Window, sorted_formulas_rise, the_list_is_a_filter};
 use std::alloc::Global;
 use valence_filter::Sieve;
 

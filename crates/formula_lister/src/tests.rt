@@ -1,8 +1,6 @@
 //! Lists of windows. The sizes are those of a search through all counts within the limits, by a program of its own.
 use crate::{GREATEST_LIST, ListFault, list};
-use adducts::Window;
-use element_table::Formula;
-use profile::Limits;
+use element_table::{Formula, Limits, Window};
 use std::alloc::Global;
 use std::test::Fail;
 use valence_filter::{Parity, Rule, Sieve, all_hold, fragment_rule, neutral_rule};

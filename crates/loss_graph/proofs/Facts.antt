@@ -13,7 +13,7 @@ use Rattle.element_table.specs.Formula.{IsFormula, IsProperPart, is_proper_part,
 use Rattle.element_table.specs.FormulaList.{FormulaListValue}
 use Rattle.element_table.specs.Window.{InWindow, Window, greatest_half_width, half_width_of}
 use Rattle.loss_graph.specs.Lists.{AreLists, list_at, window_at}
-use Rattle.loss_graph.specs.LossGraph.{greatest_graph}
+use Rattle.colour_graph.specs.Graph.{greatest_graph}
 use Rattle.loss_graph.specs.Vertices.{parts_in, peaks_of, root_vertex, vertex_at, vertex_in, vertices_of, vertices_of_colour}
 use Rattle.loss_graph.specs.declared.vertex.Vertex.{Vertex}
 use Rattle.loss_graph.specs.inside.Joining.{CanJoin}

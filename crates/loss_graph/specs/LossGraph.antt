@@ -67,10 +67,6 @@ loss_graph_of choice scores root lists = record {
   peaks = peaks_of root lists;
 }
 
--- A larger graph is not built.
-abbrev pub greatest_graph : ℕ
-greatest_graph = 512
-
 abbrev pub formula_at : LossGraphValue → ℕ → List ℕ
 formula_at built vertex = slice_index_or built.formulas vertex []
 

@@ -1,9 +1,10 @@
 //! How the graph of a candidate is built.
 ghost use Rattle.std.specs.Prelude.{◌≡◌, ◌≤◌, ◌<◌, ℕ, Err, IfOk, length, map};
 ghost use Rattle.std.specs.List.{All};
+ghost use Rattle.colour_graph.specs.Graph.{greatest_graph};
 ghost use Rattle.element_table.specs.Formula.{IsFormula};
 ghost use Rattle.loss_graph.specs.Lists.{AreLists, list_at, root_of};
-ghost use Rattle.loss_graph.specs.LossGraph.{IsLossGraph, graph_over, greatest_graph, loss_graph_of};
+ghost use Rattle.loss_graph.specs.LossGraph.{IsLossGraph, graph_over, loss_graph_of};
 ghost use Rattle.loss_graph.specs.Vertices.{vertex_at, vertices_of};
 ghost use Rattle.loss_graph.specs.declared.outcome.GraphFault.{GraphFault};
 ghost use Rattle.loss_graph.specs.declared.outcome.GraphFault.TheVariants.{TooLarge};
@@ -11,13 +12,13 @@ ghost use Rattle.loss_graph.specs.inside.Joining.{CanJoin};
 ghost use Rattle.loss_graph.specs.inside.Placed.{IsPart};
 
 use crate::edges::{add_edges_to, add_vertices};
-use crate::gathering::{GREATEST_GRAPH, Gathered, gather};
+use crate::gathering::{Gathered, gather};
 use crate::loss_graph::{LossGraph, PeakNumbers};
 use crate::outcome::GraphFault;
 use crate::scoring::{error_score, greatest_intensity, head_score};
 use crate::vertex::Vertex;
 use adducts::Choice;
-use colour_graph::{ColourGraph, GraphBuilder};
+use colour_graph::{ColourGraph, GREATEST_GRAPH, GraphBuilder};
 use element_table::{
     Formula, FormulaList, Formulas, atoms_weigh_more_than_a_window, the_tests_decide,
 };

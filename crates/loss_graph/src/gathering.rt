@@ -8,11 +8,9 @@ ghost use Rattle.loss_graph.specs.inside.Gathered.{Adds, AreGathered};
 ghost use Rattle.std.specs.List.{All};
 
 use crate::vertex::{Vertex, is_proper_part};
+use colour_graph::GREATEST_GRAPH;
 use element_table::{Formula, FormulaList};
 use std::alloc::{AllocError, Global};
-
-/// A larger graph is not built.
-pub(crate) const GREATEST_GRAPH: u32 = 512;
 
 /// The vertices so far, unless they are too many, with their number; and the numbers of the lists that have some.
 #[derive(Drop)]

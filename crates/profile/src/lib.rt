@@ -4,7 +4,6 @@
 mod fault;
 mod form;
 mod laws;
-mod limits;
 mod places;
 mod profile;
 mod reading;
@@ -17,6 +16,5 @@ mod values;
 
 pub use fault::{Name, ProfileFault};
 pub use laws::{an_empty_text_gives_the_default, what_is_read_is_in_range};
-pub use limits::Limits;
 pub use profile::{Profile, Rules, default_profile};
 pub use reading::read_profile;

@@ -2,7 +2,7 @@
 ghost use Rattle.std.specs.Prelude.{◌≡◌, IfOk};
 ghost use Rattle.profile.specs.Profile.{default_profile_value, default_limits};
 
-use crate::limits::Limits;
+use element_table::Limits;
 use score_tables::{Scores, default_tables_are_right, sorted_tables_are_right};
 use std::alloc::{AllocError, Global};
 use std::marker::Model;

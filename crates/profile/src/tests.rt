@@ -1,9 +1,9 @@
 //! Texts of profiles, and what is read from them.
 use crate::{
-    Limits, Profile, ProfileFault, Rules, an_empty_text_gives_the_default, default_profile,
-    read_profile, what_is_read_is_in_range,
+    Profile, ProfileFault, Rules, an_empty_text_gives_the_default, default_profile, read_profile,
+    what_is_read_is_in_range,
 };
-use element_table::Formula;
+use element_table::{Formula, Limits};
 use std::alloc::{AllocError, Global};
 use std::fmt::Write;
 use std::test::Fail;

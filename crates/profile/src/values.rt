@@ -7,13 +7,12 @@ ghost use Rattle.profile.specs.Table as said;
 ghost use Rattle.profile.specs.Values as spec;
 ghost use Rattle.valence_filter.specs.Parity.{parity_of};
 
-use crate::limits::Limits;
 use crate::profile::{
     DEFAULT_ABS, DEFAULT_BUDGET, DEFAULT_PEAKS, DEFAULT_PPM, Profile, Rules, default_limits,
 };
 use crate::scores::scores_in;
 use crate::table::{array_at, element_number, number_at, says, table_at};
-use element_table::{FORMULA_PLACES, a_read_formula_is_one};
+use element_table::{FORMULA_PLACES, Limits, a_read_formula_is_one};
 use score_tables::{default_tables_are_right, sorted_tables_are_right};
 use std::alloc::{AllocError, Global};
 use toml::value::Array;

@@ -6,9 +6,10 @@ use Rattle.std.specs.declared.cmp.Ordering.TheVariants.{Less}
 use Rattle.tree_entry.specs.EntryIsRight.{EntryIsRight}
 use Rattle.colour_graph.specs.Bounded.{IsBounded}
 use Rattle.colour_graph.specs.EdgeSet.{all_edges}
+use Rattle.colour_graph.specs.Graph.{greatest_graph}
 use Rattle.element_table.specs.FormulaList.{FormulaListValue}
 use Rattle.loss_graph.specs.Lists.{list_at, window_at}
-use Rattle.loss_graph.specs.LossGraph.{error_of, greatest_graph}
+use Rattle.loss_graph.specs.LossGraph.{error_of}
 use Rattle.mgf_reader.specs.Spectrum.{SpectrumValue}
 use Rattle.tree_entry.specs.Rank.{rank_cmp}
 use Rattle.tree_document.specs.declared.document.Body.{Body}

@@ -6,7 +6,8 @@ ghost use Rattle.right_document.specs.SolveSettings.{solve_settings_of};
 ghost use Rattle.right_document.specs.SettingsOf.{solve_settings_value_of};
 
 use adducts::{Adduct, Choice};
-use profile::{Limits, Profile};
+use element_table::Limits;
+use profile::Profile;
 use score_tables::Scores;
 use std::alloc::{AllocError, Global};
 use valence_filter::{Rule, Sieve, fragment_rule, neutral_rule};

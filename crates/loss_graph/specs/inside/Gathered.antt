@@ -1,9 +1,9 @@
 -- What is gathered over the lists.
 use Rattle.std.specs.Prelude.{◌≡◌, ◌≤◌, ◌+◌, ◌++◌, ℕ, List, [], ◌∷◌, length, map, nat_lt, if◌then◌else◌}
 use Rattle.std.specs.List.{filter}
+use Rattle.colour_graph.specs.Graph.{greatest_graph}
 use Rattle.element_table.specs.Formula.{is_proper_part}
 use Rattle.element_table.specs.FormulaList.{FormulaListValue}
-use Rattle.loss_graph.specs.LossGraph.{greatest_graph}
 use Rattle.loss_graph.specs.Vertices.{vertex_in, vertices_from}
 use Rattle.loss_graph.specs.declared.vertex.Vertex.{Vertex}
 

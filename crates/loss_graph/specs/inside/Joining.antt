@@ -1,12 +1,11 @@
 -- How edges are added head by head, and what vertices have to be for it.
 use Rattle.std.specs.Prelude.{◌≡◌, ◌≤◌, ◌<◌, ◌+◌, ◌++◌, ℕ, ℤ, ◌+ℤ◌, true, List, [], length, map}
 use Rattle.std.specs.List.{filter, range_with_len}
-use Rattle.colour_graph.specs.Graph.{Graph}
+use Rattle.colour_graph.specs.Graph.{Graph, greatest_graph}
 use Rattle.colour_graph.specs.declared.edge.Edge.{Edge}
 use Rattle.element_table.specs.Formula.{is_proper_part, loss_of}
 use Rattle.score_tables.specs.Scores.{loss_score_of}
 use Rattle.score_tables.specs.Tables.{ScoresValue}
-use Rattle.loss_graph.specs.LossGraph.{greatest_graph}
 use Rattle.loss_graph.specs.Vertices.{vertex_at}
 use Rattle.loss_graph.specs.declared.vertex.Vertex.{Vertex}
 

@@ -4,7 +4,8 @@ use Rattle.tree_entry.specs.declared.place.EntryPlace.{EntryPlace}
 use Rattle.entry_checker.specs.declared.verdict.EntryVerdict.{EntryVerdict}
 use Rattle.entry_checker.specs.declared.verdict.EntryVerdict.TheVariants.{Wrong}
 use Rattle.element_table.specs.FormulaList.{FormulaListValue}
-use Rattle.loss_graph.specs.LossGraph.{LossGraphValue, greatest_graph}
+use Rattle.colour_graph.specs.Graph.{greatest_graph}
+use Rattle.loss_graph.specs.LossGraph.{LossGraphValue}
 use Rattle.tree_document.specs.Value.{TreeValue}
 use Rattle.tree_document.specs.declared.entry.Outcome.{Outcome}
 use Rattle.tree_document.specs.declared.entry.Outcome.TheVariants.{Tree}

@@ -1,8 +1,9 @@
 //! The greatest count of each element.
 ghost use Rattle.std.specs.Prelude.{◌≡◌, ◌≤◌, ◌<◌, ℕ, List, slice_index};
+ghost use Rattle.element_table.specs.Elements.{formula_places, greatest_count};
 ghost use Rattle.element_table.specs.Formula.{IsFormula};
 
-use element_table::{FORMULA_PLACES, GREATEST_COUNT};
+use crate::elements::FORMULA_PLACES;
 use std::marker::Model;
 
 /// The greatest count of each element that a listed formula may have, by places: at most 1,999, and 0 at the places
@@ -24,7 +25,7 @@ impl Model for Limits {
 
 impl Limits {
     /// The limits of these counts.
-    pub fn new(counts: [u16; 16]) -> Limits
+    pub fn new(counts: [u16; FORMULA_PLACES]) -> Limits
         requires { IsFormula counts }
         ensures { result ≡ counts }
     {
@@ -33,9 +34,9 @@ impl Limits {
 
     /// The greatest count of the element at a place.
     pub fn at(&self, place: usize) -> u16
-        requires { place < FORMULA_PLACES }
+        requires { place < formula_places }
         ensures count { result ≡ slice_index self.now place }
-        ensures capped { result ≤ GREATEST_COUNT }
+        ensures capped { result ≤ greatest_count }
         ensures limits { IsFormula self.now }
     {
         self.counts[place]
