@@ -1,4 +1,3 @@
-pub mod Mapped
 pub mod SetParts
 pub mod Sums
 pub mod Owners

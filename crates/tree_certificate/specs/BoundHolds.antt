@@ -37,6 +37,10 @@ abbrev pub depth_of : BoundValue → ℕ
 depth_of (priced cert) = 0
 depth_of (split colour part first second) = 1 + max (depth_of first) (depth_of second)
 
+-- A certificate has at most so many splits above its prices.
+abbrev pub greatest_depth : ℕ
+greatest_depth = 1024
+
 -- a set with at most one edge into each colour: nothing of it can be split
 abbrev pub IsDecided : Graph → List Bool → Type 0
 IsDecided graph allowed =

@@ -1,10 +1,13 @@
 //! A bound by splits, whose ends are prices.
 ghost use Rattle.std.specs.Prelude.{◌≡◌, ◌≤◌, ◌<◌, ◌^◌};
-ghost use Rattle.tree_certificate.specs.BoundHolds.{depth_of, splits_of};
+ghost use Rattle.tree_certificate.specs.BoundHolds.{depth_of, greatest_depth, splits_of};
 ghost use Rattle.tree_certificate.specs.BoundView.{bound_value};
 
 use crate::prices::PriceCert;
 use sqlite_items::{Boxed, Items};
+
+/// A bound has at most so many splits above its prices.
+pub const GREATEST_DEPTH: u32 = 1_024;
 
 /// What shows that no tree of a set of edges scores more than an upper bound.
 #[derive(Debug, Drop)]
@@ -18,7 +21,7 @@ pub enum Bound {
 
 /// How many splits a bound has.
 pub fn splits(bound: &Bound) -> u64
-    requires depth { depth_of (bound_value bound.now) ≤ 1024 }
+    requires depth { depth_of (bound_value bound.now) ≤ greatest_depth }
     requires few { splits_of (bound_value bound.now) < 2 ^ 32 }
     ensures { result ≡ splits_of (bound_value bound.now) }
 {
@@ -30,7 +33,7 @@ pub fn splits(bound: &Bound) -> u64
 
 /// How many splits stand above the deepest prices of a bound.
 pub fn depth(bound: &Bound) -> u32
-    requires depth { depth_of (bound_value bound.now) ≤ 1024 }
+    requires depth { depth_of (bound_value bound.now) ≤ greatest_depth }
     ensures { result ≡ depth_of (bound_value bound.now) }
 {
     match bound {

@@ -8,7 +8,7 @@ mod place;
 mod prices;
 mod table;
 
-pub use bound::{Bound, depth, splits};
+pub use bound::{Bound, GREATEST_DEPTH, depth, splits};
 pub use cert::Cert;
 pub use cert_laws::{
     a_bound_that_holds_bounds_every_tree, the_cap_bounds_every_tree, what_holds_bounds_every_tree,

@@ -2,7 +2,7 @@ use Rattle.std.proofs.Common.{◌∙◌, sym, refl, ap}
 use Rattle.std.proofs.lemmas.Bool.{false≢true}
 use Rattle.tree_certificate.specs.Number.{greatest_number, is_near}
 use Rattle.std.specs.List.{list_all}
-use Rattle.tree_certificate.proofs.Mapped.{list_all-map}
+use Rattle.std.proofs.lemmas.List.Folds.{list_all-map}
 use Rattle.tree_certificate.proofs.table.TableCert.new.Goals as goal
 
 pub invariant_of-result : goal.invariant_of-result
