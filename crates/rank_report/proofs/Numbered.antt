@@ -15,7 +15,8 @@ numbered_more f n (y ∷ ys) x =
     ∙ ap (λ number. (f (n, y) ++ flat_map f (enumerate_from (n + 1) ys)) ++ f (number, x)) number
 
 -- a loop's step: what was appended for the items so far, and now for one more
-pub numbered_step : {X A : Type 0} (f : ℕ × X → List A) (first : ℕ) (old : List A) (xs : List X) (i number : ℕ) (x : X) (text new : List A)
+pub numbered_step : {X A : Type 0} (f : ℕ × X → List A) (first : ℕ) (old : List A) (xs : List X) (i number : ℕ) (x : X)
+    (text new : List A)
     → i < length xs → x ≡ get_or xs i x → number ≡ first + i
     → text ≡ old ++ flat_map f (enumerate_from first (take i xs)) → new ≡ text ++ f (number, x)
     → new ≡ old ++ flat_map f (enumerate_from first (take (i + 1) xs))
@@ -23,7 +24,8 @@ numbered_step f first old xs i number x text new within item place before now =
     let so_far = flat_map f (enumerate_from first (take i xs)) in
     let many : length (take i xs) ≡ i = length-take-le i xs (omega arith) in
     let count : number ≡ first + length (take i xs) = omega (arith, many) in
-    let longer : take i xs ++ x ∷ [] ≡ take (i + 1) xs = ap (λ last. take i xs ++ last ∷ []) item ∙ sym (take_more xs i x within) in
+    let longer : take i xs ++ x ∷ [] ≡ take (i + 1) xs =
+    ap (λ last. take i xs ++ last ∷ []) item ∙ sym (take_more xs i x within) in
     now ∙ ap (λ t. t ++ f (number, x)) before ∙ append_assoc old so_far (f (number, x))
     ∙ ap (λ n. old ++ (so_far ++ f (n, x))) count
     ∙ ap (λ more. old ++ more) (sym (numbered_more f first (take i xs) x))

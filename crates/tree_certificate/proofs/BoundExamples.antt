@@ -1,6 +1,8 @@
--- Worked examples, computed: prices and a split of a graph with a trap, where the heaviest edge from the root, of weight
+-- Worked examples, computed: prices and a split of a graph with a trap, where the heaviest edge from the root, of
+-- weight
 -- 5, is not in the best tree, which has a score of 7.
-use Rattle.std.proofs.Common.{◌≡◌, ◌<◌, ℕ, zero, suc, ℤ, pos, negsuc, ◌≤ℤ◌, Bool, true, false, List, [], ◌∷◌, refl, arith}
+use Rattle.std.proofs.Common.{◌≡◌, ◌<◌, ℕ, zero, suc, ℤ, pos, negsuc, ◌≤ℤ◌, Bool, true, false, List, [], ◌∷◌, refl}
+use Rattle.std.proofs.Common.{arith}
 use Rattle.std.proofs.lemmas.Int.{ints}
 use Rattle.std.specs.List.{All, AllPairs, Contains}
 use Rattle.colour_graph.specs.declared.edge.Edge.{Edge}
@@ -8,7 +10,8 @@ use Rattle.colour_graph.specs.EdgeSet.{all_edges, edges_into, leaving, only}
 use Rattle.colour_graph.specs.Graph.{Graph}
 use Rattle.tree_certificate.specs.BoundHolds.{BoundHolds, IsDecided, IsSplit, depth_of, splits_of}
 use Rattle.tree_certificate.specs.BoundValue.{BoundValue, PriceValue, priced, split}
-use Rattle.tree_certificate.specs.PriceHolds.{AreNotNegative, FitsPrices, PriceHolds, gain_of, needed_of, potential_of, price_total}
+use Rattle.tree_certificate.specs.PriceHolds.{AreNotNegative, FitsPrices, PriceHolds, gain_of, needed_of, potential_of}
+use Rattle.tree_certificate.specs.PriceHolds.{price_total}
 
 abbrev joining : ℕ → ℕ → ℤ → Edge
 joining tail head weight = record { tail = tail; head = head; weight = weight }
@@ -18,7 +21,8 @@ abbrev trap : Graph
 trap = record {
   root_score = pos 0;
   colours = 0 ∷ 1 ∷ 1 ∷ 2 ∷ [];
-  edges = joining 0 1 (pos 5) ∷ joining 0 2 (pos 4) ∷ joining 0 3 (pos 1) ∷ joining 1 3 (negsuc 0) ∷ joining 2 3 (pos 3) ∷ [];
+  edges = joining 0 1 (pos 5) ∷ joining 0 2 (pos 4) ∷ joining 0 3 (pos 1) ∷ joining 1 3 (negsuc 0) ∷ joining 2 3
+      (pos 3) ∷ [];
 }
 
 -- prices of both colours, and potentials of the root and vertex 2: the others, which gain nothing, have 0
@@ -38,7 +42,8 @@ not_below_0 one two of_root of_second (suc (suc colour)) d within = absurd (omeg
 abbrev without_heaviest : List Bool
 without_heaviest = false ∷ true ∷ true ∷ true ∷ true ∷ []
 
-no_potentials : (vertex : ℕ) → vertex < 4 → needed_of trap without_heaviest (costing 4 3 0 0) vertex ≤ℤ potential_of (costing 4 3 0 0) vertex
+no_potentials : (vertex : ℕ) → vertex < 4 → needed_of trap without_heaviest (costing 4 3 0 0) vertex ≤ℤ potential_of
+    (costing 4 3 0 0) vertex
 no_potentials zero within = omega (arith, ints)
 no_potentials (suc zero) within = omega (arith, ints)
 no_potentials (suc (suc zero)) within = omega (arith, ints)
@@ -66,7 +71,8 @@ gain_of-root = refl
 gain_of-lost : gain_of trap (all_edges trap) (costing 0 1 6 2) 1 2 ≡ pos 0
 gain_of-lost = refl
 
-potentials_of_all : (vertex : ℕ) → vertex < 4 → needed_of trap (all_edges trap) (costing 0 1 6 2) vertex ≤ℤ potential_of (costing 0 1 6 2) vertex
+potentials_of_all : (vertex : ℕ) → vertex < 4 → needed_of trap (all_edges trap) (costing 0 1 6 2) vertex ≤ℤ potential_of
+    (costing 0 1 6 2) vertex
 potentials_of_all zero within = omega (arith, ints)
 potentials_of_all (suc zero) within = omega (arith, ints)
 potentials_of_all (suc (suc zero)) within = omega (arith, ints)
@@ -134,7 +140,8 @@ IsSplit-second = record {
   proper = omega arith;
 }
 
-potentials_of_rest : (vertex : ℕ) → vertex < 4 → needed_of trap without_second (costing 0 0 6 3) vertex ≤ℤ potential_of (costing 0 0 6 3) vertex
+potentials_of_rest : (vertex : ℕ) → vertex < 4 → needed_of trap without_second (costing 0 0 6 3) vertex ≤ℤ potential_of
+    (costing 0 0 6 3) vertex
 potentials_of_rest zero within = omega (arith, ints)
 potentials_of_rest (suc zero) within = omega (arith, ints)
 potentials_of_rest (suc (suc zero)) within = omega (arith, ints)
@@ -146,8 +153,11 @@ PriceHolds-without_second =
     record { fits = as_many; prices = not_below_0 0 0 6 3; potentials = potentials_of_rest }
 
 BoundHolds-sides : BoundHolds trap (all_edges trap) sides (pos 7)
-BoundHolds-sides =
-    (IsSplit-second, (PriceHolds-without_heaviest, omega (arith, ints)), (PriceHolds-without_second, omega (arith, ints)))
+BoundHolds-sides = (
+  IsSplit-second,
+  (PriceHolds-without_heaviest, omega (arith, ints)),
+  (PriceHolds-without_second, omega (arith, ints)),
+)
 
 -- All edges into a colour are no part of a split, and neither is none of them.
 all_named : IsSplit trap (all_edges trap) 1 (0 ∷ 1 ∷ []) → ⊥

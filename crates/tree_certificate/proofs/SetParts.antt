@@ -1,5 +1,6 @@
 -- Parts of a set of colours and their places: the walk over all parts from the set down, by `part = (part - 1) & set`.
-use Rattle.std.proofs.Common.{◌≡◌, ◌+◌, ◌-◌, ◌*◌, ◌%◌, ◌^◌, ◌<◌, ◌≤◌, ℕ, suc, Bool, true, false, not, ◌&&◌, IsTrue, List, [], ◌∷◌, length, ap, sym, refl, ◌∙◌, arith, bit_and, pow-suc}
+use Rattle.std.proofs.Common.{◌≡◌, ◌+◌, ◌-◌, ◌*◌, ◌%◌, ◌^◌, ◌<◌, ◌≤◌, ℕ, suc, Bool, true, false, not, ◌&&◌, IsTrue}
+use Rattle.std.proofs.Common.{List, [], ◌∷◌, length, ap, sym, refl, ◌∙◌, arith, bit_and, pow-suc}
 use Rattle.std.proofs.Math.Nat.{pow-le-pow_right}
 use Rattle.std.proofs.lemmas.Nat.{and_block}
 use Rattle.tree_certificate.specs.ColourSet.{IsPartOf, place_of, without}
@@ -45,7 +46,8 @@ length-without [] (taken ∷ part) is = absurd is
 length-without (here ∷ set) [] is = absurd is
 length-without (here ∷ set) (taken ∷ part) is = ap suc (length-without set part is.1)
 
-bits-without : (here taken : Bool) → (IsTrue taken → IsTrue here) → bit_of taken + bit_of (here && not taken) ≡ bit_of here
+bits-without : (here taken : Bool) → (IsTrue taken → IsTrue here)
+    → bit_of taken + bit_of (here && not taken) ≡ bit_of here
 bits-without true true is = refl
 bits-without true false is = refl
 bits-without false false is = refl
@@ -55,14 +57,23 @@ bits-without false true is = absurd (false_is_no (is refl))
     false_is_no same = cc
 
 -- a part and what it leaves make up the set
-pub place-without : (set part : List Bool) → IsPartOf part set → place_of part + place_of (without set part) ≡ place_of set
+pub place-without : (set part : List Bool) → IsPartOf part set
+    → place_of part + place_of (without set part) ≡ place_of set
 place-without [] [] is = refl
 place-without [] (taken ∷ part) is = absurd is
 place-without (here ∷ set) [] is = absurd is
 place-without (here ∷ set) (taken ∷ part) is =
     let rest = place-without set part is.1 in
     let bits = bits-without here taken is.0 in
-    omega (arith, rest, bits, place-cons here set, place-cons taken part, place-cons (here && not taken) (without set part))
+    omega (
+      arith,
+      rest,
+      bits,
+      place-cons here set,
+      place-cons taken part,
+      place-cons (here && not taken)
+          (without set part),
+    )
 
 -- the part before one in the walk
 abbrev pub before : List Bool → List Bool → List Bool
@@ -114,7 +125,8 @@ one_and true = refl
 one_and false = refl
 
 -- one digit of a conjunction
-and_digit : (high low rest here : ℕ) → low < 2 ^ 1 → here < 2 ^ 1 → bit_and (high * 2 + low) (rest * 2 + here) ≡ bit_and high rest * 2 + bit_and low here
+and_digit : (high low rest here : ℕ) → low < 2 ^ 1 → here < 2 ^ 1
+    → bit_and (high * 2 + low) (rest * 2 + here) ≡ bit_and high rest * 2 + bit_and low here
 and_digit high low rest here low_bit here_bit = and_block 1 high rest low here low_bit here_bit
 
 pub and_part : (set part : List Bool) → IsPartOf part set → bit_and (place_of part) (place_of set) ≡ place_of part
@@ -124,19 +136,22 @@ and_part (here ∷ set) [] is = absurd is
 and_part (here ∷ set) (taken ∷ part) is =
     rw (place-cons here set, place-cons taken part) (
     and_digit (place_of part) (bit_of taken) (place_of set) (bit_of here) (bit-lt taken) (bit-lt here)
-    ∙ digits (bit_and (place_of part) (place_of set)) (place_of part) (bit_and (bit_of taken) (bit_of here)) (bit_of taken) (and_part set part is.1) (and_bits taken here is.0)
+    ∙ digits (bit_and (place_of part) (place_of set)) (place_of part) (bit_and (bit_of taken) (bit_of here))
+    (bit_of taken) (and_part set part is.1) (and_bits taken here is.0)
     )
   where
     digits : (high other low digit : ℕ) → high ≡ other → low ≡ digit → high * 2 + low ≡ other * 2 + digit
     digits high other low digit same equal = cc
 
 -- one step of the walk
-pub place-before : (set part : List Bool) → IsPartOf part set → 0 < place_of part → bit_and (place_of part - 1) (place_of set) ≡ place_of (before set part)
+pub place-before : (set part : List Bool) → IsPartOf part set → 0 < place_of part
+    → bit_and (place_of part - 1) (place_of set) ≡ place_of (before set part)
 place-before [] [] is some = absurd (omega arith)
 place-before [] (taken ∷ part) is some = absurd is
 place-before (here ∷ set) [] is some = absurd is
 place-before (here ∷ set) (true ∷ part) is some =
-    ap (λ place. bit_and place (place_of (here ∷ set))) less ∙ and_part (here ∷ set) (false ∷ part) ((λ taken. absurd (false_is_no taken)), is.1)
+    ap (λ place. bit_and place (place_of (here ∷ set))) less
+    ∙ and_part (here ∷ set) (false ∷ part) ((λ taken. absurd (false_is_no taken)), is.1)
   where
     less : place_of (true ∷ part) - 1 ≡ place_of (false ∷ part)
     less = omega arith
@@ -147,7 +162,8 @@ place-before (here ∷ set) (false ∷ part) is some =
     ap (λ place. bit_and place (place_of (here ∷ set))) (less (place_of part) some)
     ∙ ap (λ place. bit_and ((place_of part - 1) * 2 + 1) place) (place-cons here set)
     ∙ and_digit (place_of part - 1) 1 (place_of set) (bit_of here) (omega arith) (bit-lt here)
-    ∙ digits (bit_and (place_of part - 1) (place_of set)) (place_of (before set part)) (bit_and 1 (bit_of here)) (bit_of here)
+    ∙ digits (bit_and (place_of part - 1) (place_of set)) (place_of (before set part)) (bit_and 1 (bit_of here))
+    (bit_of here)
     (place-before set part is.1 (omega arith)) (one_and here)
     ∙ sym (place-cons here (before set part))
   where
@@ -167,7 +183,8 @@ bit-le false true is = absurd (false_is_no (is refl))
     false_is_no same = cc
 
 -- no part stands between one and the next of the walk
-pub le-before : (set lower part : List Bool) → IsPartOf lower set → IsPartOf part set → place_of lower < place_of part → place_of lower ≤ place_of (before set part)
+pub le-before : (set lower part : List Bool) → IsPartOf lower set → IsPartOf part set → place_of lower < place_of part
+    → place_of lower ≤ place_of (before set part)
 le-before [] [] [] lower_is is below = omega arith
 le-before [] (low ∷ lower) part lower_is is below = absurd lower_is
 le-before [] [] (taken ∷ part) lower_is is below = absurd is
@@ -178,5 +195,6 @@ le-before (here ∷ set) (low ∷ lower) (false ∷ part) lower_is is below =
     let first = place-cons low lower in
     let last = place-cons here (before set part) in
     let bits = bit-le here low lower_is.0 in
-    let rest : place_of lower ≤ place_of (before set part) = le-before set lower part lower_is.1 is.1 (omega (arith, first, below)) in
+    let rest : place_of lower ≤ place_of (before set part) =
+    le-before set lower part lower_is.1 is.1 (omega (arith, first, below)) in
     omega (arith, first, last, bits, rest)

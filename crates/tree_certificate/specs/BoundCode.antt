@@ -26,16 +26,20 @@ abbrev pub first_bound : List BoundValue → BoundValue
 first_bound (bound ∷ others) = bound
 first_bound [] = priced (record { prices = []; potentials = [] })
 
-pub bounds_of_code : (bound : BoundValue) (nodes : List Node) → bounds_of (code_of bound ++ nodes) ≡ bound ∷ bounds_of nodes
+pub bounds_of_code : (bound : BoundValue) (nodes : List Node)
+    → bounds_of (code_of bound ++ nodes) ≡ bound ∷ bounds_of nodes
 bounds_of_code (priced cert) nodes = refl
 bounds_of_code (split colour part first second) nodes =
     ap (λ all. joined colour part (bounds_of all)) (append_assoc (code_of first) (code_of second) nodes)
-    ∙ ap (joined colour part) (bounds_of_code first (code_of second ++ nodes) ∙ ap (λ bounds. first ∷ bounds) (bounds_of_code second nodes))
+    ∙ ap (joined colour part) (bounds_of_code first (code_of second ++ nodes)
+    ∙ ap (λ bounds. first ∷ bounds) (bounds_of_code second nodes))
 
 pub back : (bound : BoundValue) → first_bound (bounds_of (code_of bound)) ≡ bound
-back bound = ap (λ nodes. first_bound (bounds_of nodes)) (sym (append-nil (code_of bound))) ∙ ap first_bound (bounds_of_code bound [])
+back bound = ap (λ nodes. first_bound (bounds_of nodes)) (sym (append-nil (code_of bound)))
+    ∙ ap first_bound (bounds_of_code bound [])
 
 abbrev pub bound_code : Coded BoundValue
 bound_code =
-    code_by (List Node) (coded_list (coded⊎ (coded× (coded_list coded_ℤ) (coded_list coded_ℤ)) (coded× coded_ℕ (coded_list coded_ℕ))))
+    code_by (List Node) (coded_list (coded⊎ (coded× (coded_list coded_ℤ) (coded_list coded_ℤ))
+    (coded× coded_ℕ (coded_list coded_ℕ))))
     code_of (λ nodes. first_bound (bounds_of nodes)) back

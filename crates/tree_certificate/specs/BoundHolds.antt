@@ -1,4 +1,5 @@
--- What a bound has to hold, so that no colourful list of edges of a set scores more than a number: prices and potentials
+-- What a bound has to hold, so that no colourful list of edges of a set scores more than a number: prices and
+-- potentials
 -- do, or the set is split by the edges into a colour, of which a list has at most one, and each side has such a bound.
 use Rattle.std.specs.Prelude.{◌≤◌, ◌<◌, ◌+◌, ◌*◌, ℕ, ℤ, ◌≤ℤ◌, Bool, List, length, max}
 use Rattle.std.specs.List.{All, AllPairs, Contains}

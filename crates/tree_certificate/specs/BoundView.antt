@@ -1,6 +1,7 @@
 -- A bound as a plain value.
 use Rattle.std.specs.Prelude.{[]}
-use Rattle.tree_certificate.specs.declared.bound.Bound.{Bound, Priced, Split', Row_of-Bound, end_of-Bound, more_of-Bound}
+use Rattle.tree_certificate.specs.declared.bound.Bound.{Bound, Priced, Split', Row_of-Bound, end_of-Bound}
+use Rattle.tree_certificate.specs.declared.bound.Bound.{more_of-Bound}
 use Rattle.tree_certificate.specs.BoundValue.{BoundValue, priced, split}
 
 abbrev mutual

@@ -1,7 +1,8 @@
 -- What prices and potentials have to hold, so that no colourful list of edges of a set scores more than a number. Each
 -- colour has a price, and each vertex a potential that is at least what its edges gain: for each colour the greatest
 -- weight less the price, with the head's potential, where that is more than 0.
-use Rattle.std.specs.Prelude.{◌≡◌, ◌<◌, ◌-◌, ℕ, ℤ, pos, ◌+ℤ◌, ◌-ℤ◌, ◌≤ℤ◌, Bool, List, length, map, nat_eq, slice_index_or}
+use Rattle.std.specs.Prelude.{◌≡◌, ◌<◌, ◌-◌, ℕ, ℤ, pos, ◌+ℤ◌, ◌-ℤ◌, ◌≤ℤ◌, Bool, List, length, map, nat_eq}
+use Rattle.std.specs.Prelude.{slice_index_or}
 use Rattle.std.specs.List.{All, filter}
 use Rattle.colour_graph.specs.Cap.{greatest}
 use Rattle.colour_graph.specs.Colourful.{total}

@@ -1,4 +1,5 @@
--- When a bound that is above a tree's score has used up its budget of splits, so that only more splits could close the gap.
+-- When a bound that is above a tree's score has used up its budget of splits, so that only more splits could close the
+-- gap.
 use Rattle.std.specs.Prelude.{◌≡◌, ◌+◌, ℕ, ℤ, ◌≤ℤ◌, ◌<ℤ◌, Bool, List, [], ◌∷◌, ◌++◌, slice_get, Some}
 use Rattle.std.specs.List.{All}
 use Rattle.colour_graph.specs.Cap.{cap_of}
@@ -8,7 +9,8 @@ use Rattle.tree_certificate.specs.BoundHolds.{IsDecided, nodes_of, splits_of}
 use Rattle.tree_certificate.specs.BoundValue.{BoundValue, PriceValue, priced, split}
 use Rattle.tree_certificate.specs.PriceHolds.{price_total}
 
--- The nodes of a bound are numbered in order, a split before its sides, the first side before the second. Prices are a leaf; it has the
+-- The nodes of a bound are numbered in order, a split before its sides, the first side before the second. Prices are a
+-- leaf; it has the
 -- set that it is reached with, and so has a split.
 pub record Leaf : Type 0 where
   pub node : ℕ
@@ -53,8 +55,10 @@ IsUseful graph upper fork = upper ≤ℤ cap_of graph fork.allowed
 abbrev pub CanGoOn : Graph → ℤ → Leaf → Type 0
 CanGoOn graph score leaf = score <ℤ price_total graph leaf.cert → ¬ IsDecided graph leaf.allowed
 
--- A bound of all edges has exactly as many splits as the budget, its upper bound is the greatest total of its leaves, and
--- no split was wasted: each leaf is tight, each split is of a set whose cap is at least the upper bound, and each leaf that
+-- A bound of all edges has exactly as many splits as the budget, its upper bound is the greatest total of its leaves,
+-- and
+-- no split was wasted: each leaf is tight, each split is of a set whose cap is at least the upper bound, and each leaf
+-- that
 -- says more than the score can be split.
 pub record Spent (graph : Graph) (bound : BoundValue) (score upper : ℤ) (budget : ℕ) : Type 0 where
   pub splits : splits_of bound ≡ budget

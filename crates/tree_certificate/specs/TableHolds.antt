@@ -1,7 +1,8 @@
 -- What a table has to hold, so that no colourful list of edges scores more than a number. The numbers of a vertex bound
 -- what edges below it add up to, one number for each set of the colours that are greater than its own, after the table
 -- of Böcker and Rasche 2008.
-use Rattle.std.specs.Prelude.{◌≡◌, ◌≤◌, ◌<◌, ◌+◌, ◌-◌, ◌*◌, ◌^◌, ℕ, ℤ, pos, ◌+ℤ◌, ◌≤ℤ◌, Bool, true, List, [], ◌∷◌, length, replicate, slice_index_or}
+use Rattle.std.specs.Prelude.{◌≡◌, ◌≤◌, ◌<◌, ◌+◌, ◌-◌, ◌*◌, ◌^◌, ℕ, ℤ, pos, ◌+ℤ◌, ◌≤ℤ◌, Bool, true, List, [], ◌∷◌}
+use Rattle.std.specs.Prelude.{length, replicate, slice_index_or}
 use Rattle.colour_graph.specs.Graph.{Graph, colour_of, colour_count, edge_at, head_colour}
 use Rattle.tree_certificate.specs.ColourSet.{IsPartOf, place_of, without}
 

@@ -22,4 +22,5 @@ mod Sides
 mod Plain
 mod Apart
 mod OneReading
+mod SomeReading
 mod SmallCerts

@@ -1,5 +1,7 @@
--- The text of a line holds no line feed: its bytes are at least a space. So the lines of a spelling are cut where they were joined.
-use Rattle.std.proofs.Common.{◌≡◌, ◌<◌, ◌≤◌, ◌+◌, ◌/◌, ◌%◌, ◌∙◌, ℕ, ℤ, pos, negsuc, Bool, true, false, not, ◌&&◌, cond, List, [], ◌∷◌, ◌++◌, eqb, leb, ltb, refl, sym, ap, subst, arith}
+-- The text of a line holds no line feed: its bytes are at least a space. So the lines of a spelling are cut where they
+-- were joined.
+use Rattle.std.proofs.Common.{◌≡◌, ◌<◌, ◌≤◌, ◌+◌, ◌/◌, ◌%◌, ◌∙◌, ℕ, ℤ, pos, negsuc, Bool, true, false, not, ◌&&◌, cond}
+use Rattle.std.proofs.Common.{List, [], ◌∷◌, ◌++◌, eqb, leb, ltb, refl, sym, ap, subst, arith}
 use Rattle.std.specs.Char.{is_ascii_digit}
 use Rattle.std.specs.List.{AllByRecursion, list_all}
 use Rattle.std.specs.Str.{all_ascii_digits}
@@ -11,12 +13,19 @@ use Rattle.element_table.specs.FormulaText.{formula_text}
 use Rattle.mgf_reader.specs.Fault.{kind_text}
 use Rattle.mgf_reader.specs.Text.{ended_lines, unfinished_line}
 use Rattle.mgf_reader.specs.declared.fault.MgfKind.{MgfKind}
-use Rattle.mgf_reader.specs.declared.fault.MgfKind.TheVariants.{NestedBegin, StrayEnd, OpenBlock, PeakOutside, BadPeak, BadPrecursor, BadCharge, NoForm, LineTooLong, TooManyPeaks}
+use Rattle.mgf_reader.specs.declared.fault.MgfKind.TheVariants.{NestedBegin, StrayEnd, OpenBlock, PeakOutside, BadPeak}
+use Rattle.mgf_reader.specs.declared.fault.MgfKind.TheVariants.{BadPrecursor, BadCharge, NoForm, LineTooLong}
+use Rattle.mgf_reader.specs.declared.fault.MgfKind.TheVariants.{TooManyPeaks}
 use Rattle.tree_document.specs.declared.document.Skip.TheVariants.{NoPrecursor, Charge, Range, TooMany}
 use Rattle.tree_document.specs.declared.entry.Mark.{Mark}
 use Rattle.tree_document.specs.declared.entry.Mark.TheVariants.{Optimal, Gap}
 use Rattle.tree_document.specs.Title.{escaped, escaped_byte, hexadecimal}
-use Rattle.tree_document.specs.Line.{Field, a_word, a_number, a_signed, a_formula, a_mark, a_kind, a_title, some_numbers, Line, header_line, clean_line, refused_line, spectrum_line, skip_line, lists_line, list_line, formula_line, entries_line, too_large_line, tree_line, row_line, table_line, table_row_line, split_line, prices_line, potentials_line, done_line, Spells, WritesAll, WritesField, WritesFields, WritesNumber, WritesSigned, form_of, line_text, mark_text}
+use Rattle.tree_document.specs.Line.{Field, a_word, a_number, a_signed, a_formula, a_mark, a_kind, a_title}
+use Rattle.tree_document.specs.Line.{some_numbers, Line, header_line, clean_line, refused_line, spectrum_line}
+use Rattle.tree_document.specs.Line.{skip_line, lists_line, list_line, formula_line, entries_line, too_large_line}
+use Rattle.tree_document.specs.Line.{tree_line, row_line, table_line, table_row_line, split_line, prices_line}
+use Rattle.tree_document.specs.Line.{potentials_line, done_line, Spells, WritesAll, WritesField, WritesFields}
+use Rattle.tree_document.specs.Line.{WritesNumber, WritesSigned, form_of, line_text, mark_text}
 use Rattle.tree_document.specs.Document.{AreGoodLines, text_of}
 use Rattle.tree_document.specs.Reading.{Spelled}
 use Rattle.tree_document.proofs.Cutting.{ended-some, unfinished-more}
@@ -85,30 +94,37 @@ signed_plain (negsuc n) text is = subst Plain (sym is.1) (digits_plain is.0 (num
 
 all_plain : (numbers : List ℤ) (text : List ℕ) → WritesAll numbers text → Plain text
 all_plain [] text is = subst Plain (sym is) refl
-all_plain (number ∷ numbers) text is = subst Plain (sym is.2) (joined is.0 is.1 (signed_plain number is.0 is.3) (all_plain numbers is.1 is.4))
+all_plain (number ∷ numbers) text is =
+    subst Plain (sym is.2) (joined is.0 is.1 (signed_plain number is.0 is.3) (all_plain numbers is.1 is.4))
 
 -- the words of a form hold no line feed
 abbrev has_plain_word : Field → Bool
 has_plain_word (a_word word) = list_all (leb 32) word
 has_plain_word field = true
 
-field_plain : Known → (field : Field) (text : List ℕ) → has_plain_word field ≡ true → WritesField field text → Plain text
+field_plain : Known → (field : Field) (text : List ℕ) → has_plain_word field ≡ true → WritesField field text
+    → Plain text
 field_plain known (a_word word) text good is = subst Plain (sym is) good
 field_plain known (a_number least most number) text good is = subst Plain (sym is.1) (number_plain number is.0 is.2)
 field_plain known (a_signed most number) text good is = subst Plain (sym is.1) (signed_plain number is.0 is.2)
-field_plain known (a_formula counts) text good is = subst Plain (sym is.1) (visible_plain (formula_text counts) (recursion_from_All _ (formula_text counts) (known.visible counts is.0)))
+field_plain known (a_formula counts) text good is =
+    subst Plain (sym is.1) (visible_plain (formula_text counts)
+    (recursion_from_All _ (formula_text counts) (known.visible counts is.0)))
 field_plain known (a_mark mark) text good is = subst Plain (sym is) (mark_plain mark)
 field_plain known (a_kind number) text good is = subst Plain (sym is.2) (kind_plain is.0)
 field_plain known (a_title title) text good is = subst Plain (sym is.1) (escaped_plain title)
 field_plain known (some_numbers least count most numbers) text good is = all_plain numbers text is.1
 
-fields_plain : Known → (fields : List Field) (text : List ℕ) → list_all has_plain_word fields ≡ true → WritesFields fields text → Plain text
+fields_plain : Known → (fields : List Field) (text : List ℕ) → list_all has_plain_word fields ≡ true
+    → WritesFields fields text → Plain text
 fields_plain known [] text good is = subst Plain (sym is) refl
 fields_plain known (field ∷ fields) text good is =
     let parts = and_parts (has_plain_word field) (list_all has_plain_word fields) good in
-    subst Plain (sym is.2) (joined is.0 is.1 (field_plain known field is.0 parts.0 is.3) (fields_plain known fields is.1 parts.1 is.4))
+    subst Plain (sym is.2) (joined is.0 is.1 (field_plain known field is.0 parts.0 is.3)
+    (fields_plain known fields is.1 parts.1 is.4))
 
-words_plain : (line : Line) → (list_all (leb 32) (form_of line).word && list_all has_plain_word (form_of line).fields) ≡ true
+words_plain : (line : Line) → (list_all (leb 32) (form_of line).word && list_all has_plain_word (form_of line).fields) ≡
+    true
 words_plain header_line = refl
 words_plain clean_line = refl
 words_plain (refused_line line kind) = refl
@@ -133,8 +149,10 @@ words_plain done_line = refl
 
 line_plain : Known → (line : Line) (text : List ℕ) → Spells line text → Plain text
 line_plain known line text is =
-    let parts = and_parts (list_all (leb 32) (form_of line).word) (list_all has_plain_word (form_of line).fields) (words_plain line) in
-    subst Plain (sym is.1) (joined (form_of line).word is.0 parts.0 (fields_plain known (form_of line).fields is.0 parts.1 is.2))
+    let parts = and_parts (list_all (leb 32) (form_of line).word) (list_all has_plain_word (form_of line).fields)
+    (words_plain line) in
+    subst Plain (sym is.1) (joined (form_of line).word is.0 parts.0
+    (fields_plain known (form_of line).fields is.0 parts.1 is.2))
 
 no_feed : (byte : ℕ) → leb 32 byte ≡ true → eqb byte 10 ≡ false
 no_feed byte is = let above : 32 ≤ byte = leb-true 32 byte is in ne_eqb byte 10 (λ same. omega arith)
@@ -149,14 +167,21 @@ unfinished-plain : (line rest : List ℕ) → Plain line → unfinished_line (li
 unfinished-plain [] rest all = unfinished-more 10 rest [] (ended_lines rest) refl
 unfinished-plain (byte ∷ line) rest all =
     let parts = and_parts (leb 32 byte) (list_all (leb 32) line) all in
-    unfinished-more byte (line ++ 10 ∷ rest) (byte ∷ line) (ended_lines rest) (ended-plain (byte ∷ line) rest all) ∙ unfinished-plain line rest parts.1
+    unfinished-more byte (line ++ 10 ∷ rest) (byte ∷ line) (ended_lines rest) (ended-plain (byte ∷ line) rest all)
+    ∙ unfinished-plain line rest parts.1
 
 -- the whole lines of the text of good lines are spellings of these, and nothing stands behind them
-pub spelled_text : Known → (lines : List Line) → AreGoodLines lines → Spelled lines (ended_lines (text_of lines)) × (unfinished_line (text_of lines) ≡ [])
+pub spelled_text : Known → (lines : List Line) → AreGoodLines lines
+    → Spelled lines (ended_lines (text_of lines)) × (unfinished_line (text_of lines) ≡ [])
 spelled_text known [] good = (tt, refl)
 spelled_text known (line ∷ lines) good =
     let later = spelled_text known lines good.1 in
     let plain : Plain (line_text line) = line_plain known line (line_text line) good.0.spelled in
-    let whole : text_of (line ∷ lines) ≡ line_text line ++ 10 ∷ text_of lines = append_assoc (line_text line) (10 ∷ []) (text_of lines) in
-    let texts : ended_lines (text_of (line ∷ lines)) ≡ line_text line ∷ ended_lines (text_of lines) = ap ended_lines whole ∙ ended-plain (line_text line) (text_of lines) plain in
-    (subst (Spelled (line ∷ lines)) (sym texts) (good.0.spelled, later.0), ap unfinished_line whole ∙ unfinished-plain (line_text line) (text_of lines) plain ∙ later.1)
+    let whole : text_of (line ∷ lines) ≡ line_text line ++ 10 ∷ text_of lines =
+    append_assoc (line_text line) (10 ∷ []) (text_of lines) in
+    let texts : ended_lines (text_of (line ∷ lines)) ≡ line_text line ∷ ended_lines (text_of lines) =
+    ap ended_lines whole ∙ ended-plain (line_text line) (text_of lines) plain in (
+      subst (Spelled (line ∷ lines)) (sym texts) (good.0.spelled, later.0),
+      ap unfinished_line whole
+          ∙ unfinished-plain (line_text line) (text_of lines) plain ∙ later.1,
+    )

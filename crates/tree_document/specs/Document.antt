@@ -11,10 +11,14 @@ use Rattle.tree_document.specs.declared.document.Document.{Document}
 use Rattle.tree_document.specs.declared.entry.Outcome.{Outcome}
 use Rattle.tree_document.specs.declared.entry.Outcome.TheVariants.{Tree, TooLarge}
 use Rattle.tree_document.specs.declared.entry.Entry.{Entry}
+use Rattle.tree_certificate.specs.BoundHolds.{greatest_depth}
 use Rattle.tree_certificate.specs.BoundValue.{BoundValue, PriceValue, priced, split}
 use Rattle.tree_certificate.specs.CertHolds.{cert_depth, cert_splits}
 use Rattle.tree_certificate.specs.Value.{CertValue, a_bound, a_table}
-use Rattle.tree_document.specs.Line.{Line, header_line, clean_line, refused_line, spectrum_line, skip_line, lists_line, list_line, formula_line, entries_line, too_large_line, tree_line, row_line, table_line, table_row_line, split_line, prices_line, potentials_line, done_line, Spells, greatest_depth, in_range, is_shallow, line_text}
+use Rattle.tree_document.specs.Line.{Line, header_line, clean_line, refused_line, spectrum_line, skip_line, lists_line}
+use Rattle.tree_document.specs.Line.{list_line, formula_line, entries_line, too_large_line, tree_line, row_line}
+use Rattle.tree_document.specs.Line.{table_line, table_row_line, split_line, prices_line, potentials_line, done_line}
+use Rattle.tree_document.specs.Line.{Spells, in_range, is_shallow, line_text}
 
 abbrev pub list_lines : FormulaListValue → List Line
 list_lines it = list_line it.mz it.intensity (length it.formulas) ∷ map formula_line it.formulas

@@ -1,6 +1,7 @@
 -- The lines of a document: one table of their forms, and what follows from it. A line is a value here, and its numbers
 -- have any size.
-use Rattle.std.specs.Prelude.{◌≡◌, ◌≤◌, ◌++◌, ◌==◌, ℕ, ℤ, pos, negsuc, suc, Bool, true, false, not, ◌&&◌, nat_le, nat_lt, IsTrue, List, [], ◌∷◌, length, map, codes, decimal, Option, Some, None}
+use Rattle.std.specs.Prelude.{◌≡◌, ◌≤◌, ◌+◌, ◌^◌, ◌++◌, ◌==◌, ℕ, ℤ, pos, negsuc, suc, Bool, true, false, not, ◌&&◌}
+use Rattle.std.specs.Prelude.{nat_le, nat_lt, IsTrue, List, [], ◌∷◌, length, map, codes, decimal, Option, Some, None}
 use Rattle.std.specs.Char.{is_ascii_digit}
 use Rattle.std.specs.Fmt.{signed_decimal}
 use Rattle.std.specs.List.{flat_map, list_all}
@@ -15,7 +16,9 @@ use Rattle.tree_document.specs.declared.document.Skip.TheVariants.{NoPrecursor, 
 use Rattle.tree_document.specs.declared.entry.Mark.{Mark}
 use Rattle.tree_document.specs.declared.entry.Mark.TheVariants.{Optimal, Gap}
 use Rattle.tree_document.specs.declared.entry.TreeRow.{TreeRow}
+use Rattle.tree_certificate.specs.BoundHolds.{greatest_depth}
 use Rattle.tree_certificate.specs.Number.{greatest_number, is_near}
+use Rattle.tree_certificate.specs.TableHolds.{greatest_colours}
 use Rattle.tree_document.specs.Title.{are_bytes, escaped}
 
 pub data Line : Type 0 where
@@ -72,6 +75,33 @@ greatest_peak_number = 1000000000000000000
 abbrev pub greatest_rows : ℕ
 greatest_rows = 512
 
+-- lists of a section
+abbrev pub greatest_lists : ℕ
+greatest_lists = 41
+
+-- formulas of a list, and entries of a section
+abbrev pub greatest_listed : ℕ
+greatest_listed = 20000
+
+-- how far a candidate's mass is from the centre of its window, in units of 10^-7 Da
+abbrev pub greatest_error : ℕ
+greatest_error = 2000000
+
+-- the number of an edge, from 0; and how many edges a split names
+abbrev pub greatest_edge : ℕ
+greatest_edge = 131071
+
+abbrev pub greatest_edges : ℕ
+greatest_edges = greatest_edge + 1
+
+-- how far the weight of an edge is from 0
+abbrev pub greatest_weight : ℕ
+greatest_weight = 100000
+
+-- numbers in a row of a table: one for each set of colours
+abbrev pub greatest_numbers : ℕ
+greatest_numbers = 2 ^ greatest_colours
+
 abbrev pub skip_form : Skip → LineShape
 skip_form NoPrecursor = form (codes "skip") (a_word (codes "no-precursor") ∷ [])
 skip_form Charge = form (codes "skip") (a_word (codes "charge") ∷ [])
@@ -86,27 +116,29 @@ form_of (refused_line line kind) =
     form (codes "end") (a_word (codes "refused") ∷ a_number 0 greatest_line_number line ∷ a_kind kind ∷ [])
 form_of (spectrum_line line title) = form (codes "spectrum") (a_number 0 greatest_line_number line ∷ a_title title ∷ [])
 form_of (skip_line reason) = skip_form reason
-form_of (lists_line count) = form (codes "lists") (a_number 1 41 count ∷ [])
+form_of (lists_line count) = form (codes "lists") (a_number 1 greatest_lists count ∷ [])
 form_of (list_line mz intensity count) =
     form (codes "list") (a_number 0 greatest_peak_number mz ∷ a_number 0 greatest_peak_number intensity
-    ∷ a_number 0 20000 count ∷ [])
+    ∷ a_number 0 greatest_listed count ∷ [])
 form_of (formula_line counts) = form (codes "f") (a_formula counts ∷ [])
-form_of (entries_line count) = form (codes "entries") (a_number 0 20000 count ∷ [])
+form_of (entries_line count) = form (codes "entries") (a_number 0 greatest_listed count ∷ [])
 form_of (too_large_line candidate error vertices) =
-    form (codes "entry") (a_formula candidate ∷ a_number 0 2000000 error ∷ a_word (codes "too-large")
+    form (codes "entry") (a_formula candidate ∷ a_number 0 greatest_error error ∷ a_word (codes "too-large")
     ∷ a_number 0 greatest_line_number vertices ∷ [])
 form_of (tree_line candidate error score upper mark count) = form (codes "entry")
-    (a_formula candidate ∷ a_number 0 2000000 error ∷ a_signed greatest_number score ∷ a_signed greatest_number upper
+    (a_formula candidate ∷ a_number 0 greatest_error error ∷ a_signed greatest_number score ∷ a_signed greatest_number
+    upper
     ∷ a_mark mark ∷ a_number 0 greatest_rows count ∷ [])
 form_of (row_line it) = form (codes "r")
-    (a_number 0 131071 it.edge ∷ a_number 0 greatest_rows it.parent ∷ a_number 0 greatest_rows it.peak
-    ∷ a_formula it.formula ∷ a_formula it.loss ∷ a_signed 100000 it.weight ∷ [])
+    (a_number 0 greatest_edge it.edge ∷ a_number 0 greatest_rows it.parent ∷ a_number 0 greatest_rows it.peak
+    ∷ a_formula it.formula ∷ a_formula it.loss ∷ a_signed greatest_weight it.weight ∷ [])
 form_of (table_line count) = form (codes "table") (a_number 0 greatest_rows count ∷ [])
-form_of (table_row_line items) = form (codes "t") (some_numbers 1 4096 greatest_number items ∷ [])
+form_of (table_row_line items) = form (codes "t") (some_numbers 1 greatest_numbers greatest_number items ∷ [])
 form_of (split_line above colour edges) = form (codes "split")
-    (a_number 0 greatest_rows colour ∷ some_numbers 1 131072 131071 (map (λ edge. pos edge) edges) ∷ [])
+    (a_number 0 greatest_rows colour ∷ some_numbers 1 greatest_edges greatest_edge (map (λ edge. pos edge) edges) ∷ [])
 form_of (prices_line numbers) = form (codes "prices") (some_numbers 0 greatest_rows greatest_number numbers ∷ [])
-form_of (potentials_line numbers) = form (codes "potentials") (some_numbers 1 greatest_rows greatest_number numbers ∷ [])
+form_of (potentials_line numbers) =
+    form (codes "potentials") (some_numbers 1 greatest_rows greatest_number numbers ∷ [])
 form_of done_line = form (codes "done") []
 
 abbrev pub mark_text : Mark → List ℕ
@@ -137,16 +169,13 @@ line_text line = (form_of line).word ++ flat_map field_text (form_of line).field
 abbrev pub is_field_in_range : Field → Bool
 is_field_in_range (a_number least most number) = nat_le least number && nat_le number most
 is_field_in_range (a_signed most number) = is_near most number
-is_field_in_range (some_numbers least count most numbers) = nat_le (length numbers) count && list_all (is_near most) numbers
+is_field_in_range (some_numbers least count most numbers) =
+    nat_le (length numbers) count && list_all (is_near most) numbers
 is_field_in_range field = true
 
 -- whether all numbers and counts of a line are in their ranges
 abbrev pub in_range : Line → Bool
 in_range line = list_all is_field_in_range (form_of line).fields
-
--- A certificate has at most so many splits above its prices.
-abbrev pub greatest_depth : ℕ
-greatest_depth = 1024
 
 -- whether fewer splits stand above a line than may
 abbrev pub is_shallow : Line → Bool

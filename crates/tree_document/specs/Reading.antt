@@ -4,9 +4,15 @@ use Rattle.std.specs.Prelude.{◌≡◌, ◌≢◌, ◌+◌, ◌++◌, ◌⊎◌
 use Rattle.mgf_reader.specs.Text.{ended_lines, unfinished_line}
 use Rattle.tree_document.specs.declared.document.Document.{Document}
 use Rattle.tree_document.specs.declared.fault.CertFault.{CertFault}
-use Rattle.tree_document.specs.declared.fault.CertFault.TheVariants.{BadLine, TooBig, TooDeep, Truncated, OutOfMemory}
+use Rattle.tree_document.specs.declared.fault.CertFault.TheVariants.{BadLine, TooBig, TooDeep, Truncated}
+use Rattle.tree_document.specs.declared.fault.DocumentError.{DocumentError}
+use Rattle.tree_document.specs.declared.fault.DocumentError.TheVariants.{OutOfMemory, Refused}
 use Rattle.tree_document.specs.Document.{IsGood, IsInRange, lines_of, spelling_of}
 use Rattle.tree_document.specs.Line.{Line, Spells}
+
+-- The bytes of a document are at most so many.
+abbrev pub greatest_document : ℕ
+greatest_document = 268435456
 
 -- texts that are spellings of lines, one each
 abbrev pub Spelled : List Line → List (List ℕ) → Type 0
@@ -82,7 +88,6 @@ IsRefusal texts unfinished (BadLine line) = IsBadLine texts line ⊎ IsPastEnd t
 IsRefusal texts unfinished (TooBig line) = IsTooBig texts line
 IsRefusal texts unfinished (TooDeep line) = IsTooDeep texts line
 IsRefusal texts unfinished Truncated = IsTruncated texts
-IsRefusal texts unfinished OutOfMemory = ⊥
 
 -- Bytes read as a document, or are refused.
 abbrev pub IsReading : List ℕ → Result Document CertFault → Type 0
@@ -90,6 +95,7 @@ IsReading bytes (Ok document) = IsGood document × (bytes ≡ spelling_of docume
 IsReading bytes (Err fault) = IsRefusal (ended_lines bytes) (unfinished_line bytes) fault
 
 -- What is answered for bytes: their reading, or want of memory.
-abbrev pub IsAnswer : List ℕ → Result Document CertFault → Type 0
+abbrev pub IsAnswer : List ℕ → Result Document DocumentError → Type 0
+IsAnswer bytes (Ok document) = IsReading bytes (Ok document)
+IsAnswer bytes (Err (Refused fault)) = IsReading bytes (Err fault)
 IsAnswer bytes (Err OutOfMemory) = Unit {0}
-IsAnswer bytes answer = IsReading bytes answer

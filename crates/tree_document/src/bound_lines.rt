@@ -8,20 +8,17 @@ ghost use Rattle.tree_document.specs.inside.Head.{IsOpen, IsSmallBound, bound_he
 ghost use Rattle.tree_document.specs.inside.Need.{line_at, need_bound, need_potentials};
 ghost use Rattle.tree_document.specs.inside.Taking.{Takes};
 
-use crate::cut::next_line;
+use crate::cut::{next_line, take_line};
 use crate::heads::{GREATEST_EDGE, GREATEST_ROWS};
 use crate::laws::a_line_has_one_spelling;
 use crate::lines;
 use crate::ranges::{are_signed_within, are_within, is_within};
 use crate::stop::Stop;
 use std::alloc::{AllocError, Global};
-use tree_certificate::GREATEST_NUMBER;
-
-/// The greatest number of splits above the prices of a certificate.
-const GREATEST_DEPTH: u32 = 1_024;
+use tree_certificate::{GREATEST_DEPTH, GREATEST_NUMBER};
 
 /// The greatest number of edges that a split names.
-const GREATEST_EDGES: u64 = 131_072;
+const GREATEST_EDGES: u64 = GREATEST_EDGE + 1;
 
 /// A line where a bound is needed.
 #[derive(Drop)]
@@ -84,7 +81,8 @@ fn is_bound(head: &BoundHead) -> bool
 /// Whether the edges of a split, and how many they are, are in their ranges.
 fn are_edges(edges: &[u64]) -> bool
     ensures exactly { result
-        ≡ spec.is_field_in_range (spec.some_numbers 1 131072 131071 (map (λ edge. pos edge) edges.now)) }
+        ≡ spec.is_field_in_range (spec.some_numbers 1 spec.greatest_edges spec.greatest_edge
+        (map (λ edge. pos edge) edges.now)) }
     ensures small { IsTrue result → All (λ edge. edge < 2 ^ 32) edges.now }
 {
     edges.len() as u64 <= GREATEST_EDGES && are_within(edges, GREATEST_EDGE)
@@ -106,17 +104,7 @@ pub fn potentials_line(alloc: Global, bytes: &[u8]) -> Result<(Vec<i64>, &[u8]),
     ensures taken { Takes need_potentials (λ potentials. spec.potentials_line potentials.items) bytes.now result }
     ensures numbers { IfOk result (λ both. AreNear both.0.items) }
 {
-    a_line_has_one_spelling();
-    let Some((line, rest)) = next_line(bytes) else {
-        return Err(Stop::End);
-    };
-    let Some(potentials) = lines::potentials(alloc, line)? else {
-        return Err(Stop::Bad(bytes));
-    };
-    if !are_potentials(&potentials) {
-        return Err(Stop::Big(bytes));
-    }
-    Ok((potentials, rest))
+    take_line!(bytes, line => lines::potentials(alloc, line)?, potentials => potentials, if are_potentials(&potentials))
 }
 
 /// Whether potentials, or prices, and how many they are, are in their ranges.

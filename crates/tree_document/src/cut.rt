@@ -3,6 +3,7 @@ ghost use Rattle.std.specs.Prelude.{◌≡◌, ◌<◌, ◌≤◌, ◌+◌, IfSo
 ghost use Rattle.std.specs.List.{position};
 ghost use Rattle.std.specs.Option.{option_map};
 ghost use Rattle.mgf_reader.specs.Text.{ended_lines};
+ghost use Rattle.tree_document.specs.Reading.{greatest_document};
 ghost use Rattle.tree_document.specs.inside.Cut.{cut_line, is_feed};
 
 use memchr::memchr;
@@ -28,9 +29,9 @@ fn first_feed(bytes: &[u8]) -> Option<usize>
 /// How many whole lines some bytes have.
 #[tactic(auto, using(crate::proofs::Cutting::one_line, crate::proofs::Cutting::no_line))]
 pub fn count_lines(bytes: &[u8]) -> u32
-    requires { length (ended_lines bytes.now) ≤ 268435456 }
+    requires { length (ended_lines bytes.now) ≤ greatest_document }
     ensures count { result ≡ length (ended_lines bytes.now) }
-    ensures few { result ≤ 268435456 }
+    ensures few { result ≤ greatest_document }
 {
     let mut count = 0;
     let mut rest = bytes;
@@ -40,3 +41,34 @@ pub fn count_lines(bytes: &[u8]) -> u32
     }
     count
 }
+
+/// The line with which some bytes begin, by what it holds, and the bytes behind it. The reading stops where no whole
+/// line
+/// is left, where no such line may stand, and where a number of the line is past its range.
+macro_rules! take_line {
+    ($bytes:ident, $line:ident => $read:expr, $head:pat => $value:expr) => {{
+        a_line_has_one_spelling();
+        let Some(($line, rest)) = next_line($bytes) else {
+            return Err(Stop::End);
+        };
+        let Some($head) = $read else {
+            return Err(Stop::Bad($bytes));
+        };
+        Ok(($value, rest))
+    }};
+    ($bytes:ident, $line:ident => $read:expr, $head:pat => $value:expr, if $within:expr) => {{
+        a_line_has_one_spelling();
+        let Some(($line, rest)) = next_line($bytes) else {
+            return Err(Stop::End);
+        };
+        let Some($head) = $read else {
+            return Err(Stop::Bad($bytes));
+        };
+        if !$within {
+            return Err(Stop::Big($bytes));
+        }
+        Ok(($value, rest))
+    }};
+}
+
+pub(crate) use take_line;

@@ -77,7 +77,13 @@ impl Model for Tree {
 
     ghost coded = { Prim.hlevel (codes, bound_code) };
 
-    ghost view = { λ tree. record { score = tree.score; upper = tree.upper; mark = tree.mark; rows = tree.rows; cert = cert_of tree.cert } };
+    ghost view = { λ tree. record {
+      score = tree.score;
+      upper = tree.upper;
+      mark = tree.mark;
+      rows = tree.rows;
+      cert = cert_of tree.cert;
+    } };
 }
 
 /// What was found for a candidate.

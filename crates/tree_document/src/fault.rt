@@ -11,6 +11,13 @@ pub enum CertFault {
     TooDeep(u32),
     /// Every whole line is good, and the bytes end before the end line does.
     Truncated,
+}
+
+/// Why no document was read.
+#[derive(Clone, Copy, Debug, PartialEq, Eq)]
+pub enum DocumentError {
+    /// The bytes are refused.
+    Refused(CertFault),
     /// There was no memory.
     OutOfMemory,
 }

@@ -161,7 +161,8 @@ fn number_in(token: &[u8]) -> Option<u64>
 
 /// The number of some bytes, if they are digits.
 fn digits_in(digits: &[u8]) -> Option<u64>
-    ensures number { result ≡ (if all_ascii_digits digits.now then Some (spec.capped (digits_value 10 digits.now)) else None) }
+    ensures number { result
+        ≡ (if all_ascii_digits digits.now then Some (spec.capped (digits_value 10 digits.now)) else None) }
     ensures within { IfSome result (λ number. number ≤ spec.greatest_read) }
 {
     let mut number = 0;

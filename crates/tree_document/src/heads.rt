@@ -4,11 +4,14 @@ ghost use Rattle.std.specs.List.{list_all};
 ghost use Rattle.std.specs.Option.{option_map};
 ghost use Rattle.tree_certificate.specs.Number.{greatest_number, is_near};
 ghost use Rattle.tree_document.specs.Line as spec;
-ghost use Rattle.tree_document.specs.inside.Head.{IsSmallHead, IsSmallRow, IsSmallSection, row_fields_line, body_head_line, entry_head_line, section_head_line};
-ghost use Rattle.tree_document.specs.inside.Need.{need_body, need_document, need_done, need_entries, need_entry, need_formula, need_list, need_row, need_sections, need_table_row, clean_shape, first_line, line_at, refused_shape};
+ghost use Rattle.tree_document.specs.inside.Head.{IsSmallHead, IsSmallRow, IsSmallSection, row_fields_line};
+ghost use Rattle.tree_document.specs.inside.Head.{body_head_line, entry_head_line, section_head_line};
+ghost use Rattle.tree_document.specs.inside.Need.{need_body, need_document, need_done, need_entries, need_entry};
+ghost use Rattle.tree_document.specs.inside.Need.{need_formula, need_list, need_row, need_sections, need_table_row};
+ghost use Rattle.tree_document.specs.inside.Need.{clean_shape, first_line, line_at, refused_shape};
 ghost use Rattle.tree_document.specs.inside.Taking.{Takes, TakesTable};
 
-use crate::cut::next_line;
+use crate::cut::{next_line, take_line};
 use crate::document::Skip;
 use crate::entry::{Mark, TreeRow};
 use crate::laws::a_line_has_one_spelling;
@@ -18,7 +21,7 @@ use crate::stop::Stop;
 use element_table::Formula;
 use mgf_reader::Title;
 use std::alloc::{AllocError, Global};
-use tree_certificate::GREATEST_NUMBER;
+use tree_certificate::{GREATEST_COLOURS, GREATEST_NUMBER};
 
 /// The greatest line of a text, and the greatest number of vertices that is told.
 const GREATEST_LINE_NUMBER: u64 = 4_294_967_295;
@@ -32,12 +35,13 @@ const GREATEST_LISTED: u64 = 20_000;
 /// The greatest number of lists of a section.
 const GREATEST_LISTS: u64 = 41;
 
-/// The greatest number of rows of a tree and of a table, of prices and of potentials, and the greatest number of a row, of
+/// The greatest number of rows of a tree and of a table, of prices and of potentials, and the greatest number of a row,
+/// of
 /// a list and of a colour.
 pub const GREATEST_ROWS: u64 = 512;
 
-/// The greatest number of numbers in a row of a table.
-const GREATEST_NUMBERS: u64 = 4_096;
+/// The greatest number of numbers in a row of a table: one for each set of colours.
+const GREATEST_NUMBERS: u64 = 1 << GREATEST_COLOURS;
 
 /// The greatest number of an edge.
 pub const GREATEST_EDGE: u64 = 131_071;
@@ -52,14 +56,7 @@ const GREATEST_WEIGHT: u64 = 100_000;
 pub fn document_head(bytes: &[u8]) -> Result<((), &[u8]), Stop<'_>>
     ensures { Takes need_document (λ x. spec.header_line) bytes.now result }
 {
-    a_line_has_one_spelling();
-    let Some((line, rest)) = next_line(bytes) else {
-        return Err(Stop::End);
-    };
-    let Some(()) = lines::header(line) else {
-        return Err(Stop::Bad(bytes));
-    };
-    Ok(((), rest))
+    take_line!(bytes, line => lines::header(line), () => ())
 }
 
 /// A line where a section or the ending is needed.
@@ -78,17 +75,7 @@ pub fn section_head(alloc: Global, bytes: &[u8]) -> Result<(SectionHead, &[u8]),
     ensures taken { Takes need_sections section_head_line bytes.now result }
     ensures small { IfOk result (λ both. IsSmallSection both.0) }
 {
-    a_line_has_one_spelling();
-    let Some((line, rest)) = next_line(bytes) else {
-        return Err(Stop::End);
-    };
-    let Some(head) = section_line(alloc, line)? else {
-        return Err(Stop::Bad(bytes));
-    };
-    if !is_section(&head) {
-        return Err(Stop::Big(bytes));
-    }
-    Ok((head, rest))
+    take_line!(bytes, line => section_line(alloc, line)?, head => head, if is_section(&head))
 }
 
 /// The line that begins a section, or the ending, its number of any size.
@@ -137,17 +124,7 @@ pub enum BodyHead {
 pub fn body_head(bytes: &[u8]) -> Result<(BodyHead, &[u8]), Stop<'_>>
     ensures { Takes need_body body_head_line bytes.now result }
 {
-    a_line_has_one_spelling();
-    let Some((line, rest)) = next_line(bytes) else {
-        return Err(Stop::End);
-    };
-    let Some(head) = body_line(line) else {
-        return Err(Stop::Bad(bytes));
-    };
-    if !is_body(&head) {
-        return Err(Stop::Big(bytes));
-    }
-    Ok((head, rest))
+    take_line!(bytes, line => body_line(line), head => head, if is_body(&head))
 }
 
 /// The line that begins the body of a section, its number of any size.
@@ -189,17 +166,7 @@ fn is_body(head: &BodyHead) -> bool
 pub fn list_head(bytes: &[u8]) -> Result<((u64, u64, u64), &[u8]), Stop<'_>>
     ensures { Takes need_list (λ x. spec.list_line x.0 x.1 x.2) bytes.now result }
 {
-    a_line_has_one_spelling();
-    let Some((line, rest)) = next_line(bytes) else {
-        return Err(Stop::End);
-    };
-    let Some((mz, intensity, count)) = lines::list(line) else {
-        return Err(Stop::Bad(bytes));
-    };
-    if !is_list(mz, intensity, count) {
-        return Err(Stop::Big(bytes));
-    }
-    Ok(((mz, intensity, count), rest))
+    take_line!(bytes, line => lines::list(line), (mz, intensity, count) => (mz, intensity, count), if is_list(mz, intensity, count))
 }
 
 /// Whether the numbers of a list's line are in their ranges.
@@ -215,31 +182,14 @@ fn is_list(mz: u64, intensity: u64, count: u64) -> bool
 pub fn formula_line(bytes: &[u8]) -> Result<(Formula, &[u8]), Stop<'_>>
     ensures { Takes need_formula (λ counts. spec.formula_line counts) bytes.now result }
 {
-    a_line_has_one_spelling();
-    let Some((line, rest)) = next_line(bytes) else {
-        return Err(Stop::End);
-    };
-    let Some(formula) = lines::formula(line) else {
-        return Err(Stop::Bad(bytes));
-    };
-    Ok((formula, rest))
+    take_line!(bytes, line => lines::formula(line), formula => formula)
 }
 
 /// The line that tells how many entries follow.
 pub fn entries_head(bytes: &[u8]) -> Result<(u64, &[u8]), Stop<'_>>
     ensures { Takes need_entries (λ count. spec.entries_line count) bytes.now result }
 {
-    a_line_has_one_spelling();
-    let Some((line, rest)) = next_line(bytes) else {
-        return Err(Stop::End);
-    };
-    let Some(count) = lines::entries(line) else {
-        return Err(Stop::Bad(bytes));
-    };
-    if !is_entries(count) {
-        return Err(Stop::Big(bytes));
-    }
-    Ok((count, rest))
+    take_line!(bytes, line => lines::entries(line), count => count, if is_entries(count))
 }
 
 /// Whether a number of entries is in its range.
@@ -263,17 +213,7 @@ pub fn entry_head(bytes: &[u8]) -> Result<(EntryHead, &[u8]), Stop<'_>>
     ensures taken { Takes need_entry entry_head_line bytes.now result }
     ensures small { IfOk result (λ both. IsSmallHead both.0) }
 {
-    a_line_has_one_spelling();
-    let Some((line, rest)) = next_line(bytes) else {
-        return Err(Stop::End);
-    };
-    let Some(head) = entry_line(line) else {
-        return Err(Stop::Bad(bytes));
-    };
-    if !is_entry(&head) {
-        return Err(Stop::Big(bytes));
-    }
-    Ok((head, rest))
+    take_line!(bytes, line => entry_line(line), head => head, if is_entry(&head))
 }
 
 /// The line that begins an entry, its numbers of any size.
@@ -311,17 +251,7 @@ fn is_entry(head: &EntryHead) -> bool
 pub fn row_line(bytes: &[u8]) -> Result<(TreeRow, &[u8]), Stop<'_>>
     ensures { Takes need_row (λ it. spec.row_line it) bytes.now result }
 {
-    a_line_has_one_spelling();
-    let Some((line, rest)) = next_line(bytes) else {
-        return Err(Stop::End);
-    };
-    let Some(fields) = lines::row(line) else {
-        return Err(Stop::Bad(bytes));
-    };
-    if !is_row(&fields) {
-        return Err(Stop::Big(bytes));
-    }
-    Ok((tree_row(&fields), rest))
+    take_line!(bytes, line => lines::row(line), fields => tree_row(&fields), if is_row(&fields))
 }
 
 /// The row of a line whose numbers are in their ranges.
@@ -341,7 +271,7 @@ fn tree_row(fields: &RowFields) -> TreeRow
 
 /// A weight in its range.
 fn weight_of(weight: i64) -> i32
-    requires { unsigned_abs weight ≤ 100000 }
+    requires { unsigned_abs weight ≤ spec.greatest_weight }
     ensures { result ≡ weight }
 {
     weight as i32
@@ -388,17 +318,7 @@ pub fn table_row_line(alloc: Global, bytes: &[u8]) -> Result<(Vec<i64>, &[u8]), 
     ensures taken { Takes need_table_row (λ row. spec.table_row_line row.items) bytes.now result }
     ensures numbers { IfOk result (λ both. IsTrue (list_all (is_near greatest_number) both.0.items)) }
 {
-    a_line_has_one_spelling();
-    let Some((line, rest)) = next_line(bytes) else {
-        return Err(Stop::End);
-    };
-    let Some(row) = lines::table_row(alloc, line)? else {
-        return Err(Stop::Bad(bytes));
-    };
-    if !is_table_row(&row) {
-        return Err(Stop::Big(bytes));
-    }
-    Ok((row, rest))
+    take_line!(bytes, line => lines::table_row(alloc, line)?, row => row, if is_table_row(&row))
 }
 
 /// Whether the numbers of a row of a table are in their ranges.
@@ -413,12 +333,5 @@ fn is_table_row(row: &[i64]) -> bool
 pub fn done_line(bytes: &[u8]) -> Result<((), &[u8]), Stop<'_>>
     ensures { Takes need_done (λ x. spec.done_line) bytes.now result }
 {
-    a_line_has_one_spelling();
-    let Some((line, rest)) = next_line(bytes) else {
-        return Err(Stop::End);
-    };
-    let Some(()) = lines::done(line) else {
-        return Err(Stop::Bad(bytes));
-    };
-    Ok(((), rest))
+    take_line!(bytes, line => lines::done(line), () => ())
 }

@@ -4,10 +4,12 @@ ghost use Rattle.std.specs.Prelude.{Some, None, Result, Ok, Err, true, length};
 ghost use Rattle.std.specs.List.{flat_map};
 ghost use Rattle.tree_document.specs.Line.{Line, header_line, in_range, is_shallow, line_text};
 ghost use Rattle.tree_document.specs.Document.{IsGood, IsGoodLine, ending_line, section_lines, spelling_of, text_of};
-ghost use Rattle.tree_document.specs.Reading.{IsAnswer, IsBadLine, IsPastEnd, IsReading, IsTooBig, IsTooDeep, IsTruncated};
+ghost use Rattle.tree_document.specs.Reading.{IsAnswer, IsBadLine, IsPastEnd, IsReading, IsTooBig, IsTooDeep};
+ghost use Rattle.tree_document.specs.Reading.{IsTruncated};
 ghost use Rattle.tree_document.specs.declared.document.Document.{Document};
 ghost use Rattle.tree_document.specs.declared.fault.CertFault.{CertFault};
-ghost use Rattle.tree_document.specs.declared.fault.CertFault.TheVariants.{OutOfMemory};
+ghost use Rattle.tree_document.specs.declared.fault.DocumentError.{DocumentError};
+ghost use Rattle.tree_document.specs.declared.fault.DocumentError.TheVariants.{OutOfMemory};
 ghost use Rattle.tree_document.specs.inside.Need.{Need, line_at, need_document};
 ghost use Rattle.tree_document.specs.inside.Verdict.{at_bad, at_big, at_deep, at_end, verdict};
 
@@ -54,10 +56,11 @@ pub(crate) fn lines_stop_as_documents_say()
 /// Bytes read in one way: as one document or as one refusal. So the spelling of a document is read as it and as nothing
 /// else, want of memory aside.
 pub fn bytes_read_one_way()
+    ensures some { (bytes : List ℕ) → (result : Result Document CertFault) × IsReading bytes result }
     ensures one { (bytes : List ℕ) (one other : Result Document CertFault)
         → IsReading bytes one → IsReading bytes other → one ≡ other }
     ensures spelling { (document : Document) → IsGood document → IsReading (spelling_of document) (Ok document) }
-    ensures again { (document : Document) (answer : Result Document CertFault)
+    ensures again { (document : Document) (answer : Result Document DocumentError)
         → IsGood document → IsAnswer (spelling_of document) answer
         → (answer ≡ Ok document) ⊎ (answer ≡ Err OutOfMemory) }
 {

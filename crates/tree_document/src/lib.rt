@@ -2,8 +2,6 @@
 #![tactic(auto)]
 
 mod bound_lines;
-#[cfg(test)]
-mod bound_tests;
 mod bound_writer;
 mod cut;
 mod document;
@@ -18,14 +16,12 @@ mod ranges;
 mod reader;
 mod reading;
 mod stop;
-#[cfg(test)]
-mod tests;
 mod title;
 mod writer;
 
 pub use document::{Body, Document, Ending, FormulaLists, MgfEnd, Section, Sections, Skip, Solved};
 pub use entry::{Entries, Entry, Mark, Outcome, Tree, TreeRow, TreeRows};
-pub use fault::CertFault;
+pub use fault::{CertFault, DocumentError};
 pub use laws::{bytes_read_one_way, parts_make_the_spelling};
 pub use reading::read_document;
 pub use title::push_escaped;

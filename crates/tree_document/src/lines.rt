@@ -2,11 +2,18 @@
 //! with their ranges.
 ghost use Rattle.std.specs.Prelude.{◌≡◌, [], ◌∷◌, ℕ, IfOk};
 ghost use Rattle.std.specs.Option.{option_map};
-ghost use Rattle.tree_document.specs.Line.{clean_line, done_line, entries_line, formula_line, header_line, list_line, lists_line, potentials_line, prices_line, refused_line, spectrum_line, split_line, table_line, table_row_line, too_large_line, tree_line};
+ghost use Rattle.tree_document.specs.Line.{clean_line, done_line, entries_line, formula_line, header_line, list_line};
+ghost use Rattle.tree_document.specs.Line.{lists_line, potentials_line, prices_line, refused_line, spectrum_line};
+ghost use Rattle.tree_document.specs.Line.{split_line, table_line, table_row_line, too_large_line, tree_line};
 ghost use Rattle.tree_document.specs.Line as spec;
 ghost use Rattle.tree_document.specs.inside.Head.{row_fields_line};
-ghost use Rattle.tree_document.specs.inside.Need.{clean_shape, done_shape, entries_shape, formula_shape, header_shape, line_with, list_shape, lists_shape, no_precursor_shape, potentials_shape, prices_shape, split_shape, charge_shape, range_shape, too_many_shape, refused_shape, row_shape, table_shape, too_large_shape, tree_shape, spectrum_shape, table_row_shape};
-ghost use Rattle.tree_document.specs.inside.Field.{form_at, mark_kind, no_tail, number_kind, signed_kind, tail_at, values_at};
+ghost use Rattle.tree_document.specs.inside.Need.{clean_shape, done_shape, entries_shape, formula_shape, header_shape};
+ghost use Rattle.tree_document.specs.inside.Need.{line_with, list_shape, lists_shape, no_precursor_shape};
+ghost use Rattle.tree_document.specs.inside.Need.{potentials_shape, prices_shape, split_shape, charge_shape};
+ghost use Rattle.tree_document.specs.inside.Need.{range_shape, too_many_shape, refused_shape, row_shape, table_shape};
+ghost use Rattle.tree_document.specs.inside.Need.{too_large_shape, tree_shape, spectrum_shape, table_row_shape};
+ghost use Rattle.tree_document.specs.inside.Field.{form_at, mark_kind, no_tail, number_kind, signed_kind, tail_at};
+ghost use Rattle.tree_document.specs.inside.Field.{values_at};
 ghost use Rattle.tree_document.specs.declared.document.Skip.TheVariants.{NoPrecursor, Charge, Range, TooMany};
 
 use crate::entry::Mark;
@@ -63,7 +70,8 @@ pub fn spectrum(alloc: Global, line: &[u8]) -> Result<Option<(u64, Title)>, Allo
 
 /// `t NUMBERS`
 pub fn table_row(alloc: Global, line: &[u8]) -> Result<Option<Vec<i64>>, AllocError>
-    ensures { IfOk result (λ read. option_map (λ row. table_row_line row.items) read ≡ line_with table_row_shape line.now) }
+    ensures { IfOk result (λ read. option_map (λ row. table_row_line row.items) read
+        ≡ line_with table_row_shape line.now) }
 {
     let Some(rest) = behind_word(b"t", line) else {
         return Ok(None);
@@ -90,7 +98,8 @@ pub fn split(alloc: Global, line: &[u8]) -> Result<Option<(u64, Vec<u64>)>, Allo
 
 /// `prices NUMBERS`, of which there may be none.
 pub fn prices(alloc: Global, line: &[u8]) -> Result<Option<Vec<i64>>, AllocError>
-    ensures { IfOk result (λ read. option_map (λ prices. prices_line prices.items) read ≡ line_with prices_shape line.now) }
+    ensures { IfOk result (λ read. option_map (λ prices. prices_line prices.items) read
+        ≡ line_with prices_shape line.now) }
 {
     let Some(rest) = behind_word(b"prices", line) else {
         return Ok(None);

@@ -3,8 +3,11 @@ ghost use Rattle.std.specs.Prelude.{◌≡◌, ◌<◌, ◌^◌, ◌++◌, [], �
 ghost use Rattle.std.specs.List.{All, flat_map, list_all};
 ghost use Rattle.tree_document.specs.Line as spec;
 ghost use Rattle.tree_certificate.specs.BoundView.{bound_value};
-ghost use Rattle.tree_document.specs.Document.{body_lines, bound_lines, cert_lines, ending_line, entry_lines, lines_of, list_lines, section_lines};
-ghost use Rattle.tree_document.specs.inside.Need.{need_body, need_bound, need_cert, need_document, need_done, need_entries, need_entry, need_formula, need_list, need_potentials, need_row, need_sections, need_table_row};
+ghost use Rattle.tree_document.specs.Document.{body_lines, bound_lines, cert_lines, ending_line, entry_lines, lines_of};
+ghost use Rattle.tree_document.specs.Document.{list_lines, section_lines};
+ghost use Rattle.tree_document.specs.inside.Need.{need_body, need_bound, need_cert, need_document, need_done};
+ghost use Rattle.tree_document.specs.inside.Need.{need_entries, need_entry, need_formula, need_list, need_potentials};
+ghost use Rattle.tree_document.specs.inside.Need.{need_row, need_sections, need_table_row};
 ghost use Rattle.tree_document.specs.Line.{done_line, entries_line};
 ghost use Rattle.tree_certificate.specs.Number.{AreNear, greatest_number, is_near};
 ghost use Rattle.tree_certificate.specs.Value.{cert_of};
@@ -34,38 +37,38 @@ macro_rules! part {
     };
 }
 
+/// So many parts, one behind the other, each read from the bytes that the part before it leaves.
+macro_rules! read_counted {
+    ($alloc:ident, $count:ident, $bytes:ident, $rest:ident => $read:expr) => {{
+        let mut items = Vec::new($alloc);
+        let mut $rest = $bytes;
+        let mut left = $count;
+        while left > 0 {
+            let (item, later) = part!($read);
+            items.push(item)?;
+            $rest = later;
+            left -= 1;
+        }
+        Ok((items, $rest))
+    }};
+}
+
 /// So many lines of formulas.
 fn read_formulas(alloc: Global, count: u64, bytes: &[u8]) -> Result<(Vec<Formula>, &[u8]), Stop<'_>>
-    ensures taken { Reads (replicate count need_formula) (λ items. map (λ counts. spec.formula_line counts) items.items) bytes.now result }
+    ensures taken { Reads (replicate count need_formula) (λ items. map (λ counts. spec.formula_line counts) items.items)
+        bytes.now result }
     ensures count { IfOk result (λ both. length both.0.items ≡ count) }
 {
-    let mut items = Vec::new(alloc);
-    let mut rest = bytes;
-    let mut left = count;
-    while left > 0 {
-        let (item, later) = part!(formula_line(rest));
-        items.push(item)?;
-        rest = later;
-        left -= 1;
-    }
-    Ok((items, rest))
+    read_counted!(alloc, count, bytes, rest => formula_line(rest))
 }
 
 /// So many rows of a tree.
 fn read_rows(alloc: Global, count: u64, bytes: &[u8]) -> Result<(Vec<TreeRow>, &[u8]), Stop<'_>>
-    ensures taken { Reads (replicate count need_row) (λ items. map (λ it. spec.row_line it) items.items) bytes.now result }
+    ensures taken { Reads (replicate count need_row) (λ items. map (λ it. spec.row_line it) items.items)
+        bytes.now result }
     ensures count { IfOk result (λ both. length both.0.items ≡ count) }
 {
-    let mut items = Vec::new(alloc);
-    let mut rest = bytes;
-    let mut left = count;
-    while left > 0 {
-        let (item, later) = part!(row_line(rest));
-        items.push(item)?;
-        rest = later;
-        left -= 1;
-    }
-    Ok((items, rest))
+    read_counted!(alloc, count, bytes, rest => row_line(rest))
 }
 
 /// A list of formulas.
@@ -91,19 +94,11 @@ fn read_lists(
     count: u64,
     bytes: &[u8],
 ) -> Result<(Vec<FormulaList>, &[u8]), Stop<'_>>
-    ensures taken { Reads (replicate count need_list) (λ items. flat_map (λ list. list_lines list) items.items) bytes.now result }
+    ensures taken { Reads (replicate count need_list) (λ items. flat_map (λ list. list_lines list) items.items)
+        bytes.now result }
     ensures count { IfOk result (λ both. length both.0.items ≡ count) }
 {
-    let mut items = Vec::new(alloc);
-    let mut rest = bytes;
-    let mut left = count;
-    while left > 0 {
-        let (item, later) = part!(read_list(alloc, rest));
-        items.push(item)?;
-        rest = later;
-        left -= 1;
-    }
-    Ok((items, rest))
+    read_counted!(alloc, count, bytes, rest => read_list(alloc, rest))
 }
 
 /// So many rows of a table.
@@ -112,20 +107,13 @@ fn read_table_rows(
     count: u64,
     bytes: &[u8],
 ) -> Result<(Vec<Vec<i64>>, &[u8]), Stop<'_>>
-    ensures taken { Reads (replicate count need_table_row) (λ items. map (λ row. spec.table_row_line row.items) items.items) bytes.now result }
-    ensures numbers { IfOk result (λ both. IsTrue (list_all (λ row. list_all (is_near greatest_number) row.items) both.0.items)) }
+    ensures taken { Reads (replicate count need_table_row)
+        (λ items. map (λ row. spec.table_row_line row.items) items.items) bytes.now result }
+    ensures numbers { IfOk result
+        (λ both. IsTrue (list_all (λ row. list_all (is_near greatest_number) row.items) both.0.items)) }
     ensures count { IfOk result (λ both. length both.0.items ≡ count) }
 {
-    let mut items = Vec::new(alloc);
-    let mut rest = bytes;
-    let mut left = count;
-    while left > 0 {
-        let (item, later) = part!(table_row_line(alloc, rest));
-        items.push(item)?;
-        rest = later;
-        left -= 1;
-    }
-    Ok((items, rest))
+    read_counted!(alloc, count, bytes, rest => table_row_line(alloc, rest))
 }
 
 /// A certificate.
@@ -235,19 +223,11 @@ fn tree_of(score: i64, upper: i64, mark: Mark, rows: Vec<TreeRow>, cert: Cert) -
 
 /// So many entries.
 fn read_entries(alloc: Global, count: u64, bytes: &[u8]) -> Result<(Vec<Entry>, &[u8]), Stop<'_>>
-    ensures taken { Reads (replicate count need_entry) (λ items. flat_map (λ entry. entry_lines entry) items.items) bytes.now result }
+    ensures taken { Reads (replicate count need_entry) (λ items. flat_map (λ entry. entry_lines entry) items.items)
+        bytes.now result }
     ensures count { IfOk result (λ both. length both.0.items ≡ count) }
 {
-    let mut items = Vec::new(alloc);
-    let mut rest = bytes;
-    let mut left = count;
-    while left > 0 {
-        let (item, later) = part!(read_entry(alloc, rest));
-        items.push(item)?;
-        rest = later;
-        left -= 1;
-    }
-    Ok((items, rest))
+    read_counted!(alloc, count, bytes, rest => read_entry(alloc, rest))
 }
 
 /// The body of a section.

@@ -1,5 +1,7 @@
 -- How a line is taken apart: its first word, then a field after each space.
-use Rattle.std.specs.Prelude.{◌+◌, ◌-◌, ◌*◌, ◌%◌, ◌==◌, ◌&&◌, ℕ, ℤ, pos, neg_ℤ, min, Bool, not, List, [], ◌∷◌, length, map, drop, codes, Option, Some, None, Result, Ok, Err, nat_eq, nat_le, nat_lt, slice_index, if◌then◌else◌}
+use Rattle.std.specs.Prelude.{◌+◌, ◌-◌, ◌*◌, ◌%◌, ◌==◌, ◌&&◌, ℕ, ℤ, pos, neg_ℤ, min, Bool, not, List, [], ◌∷◌, length}
+use Rattle.std.specs.Prelude.{map, drop, codes, Option, Some, None, Result, Ok, Err, nat_eq, nat_le, nat_lt}
+use Rattle.std.specs.Prelude.{slice_index, if◌then◌else◌}
 use Rattle.std.specs.List.{before_first, position_or_len, slice_split, starts_with}
 use Rattle.std.specs.Option.{option_and_then, option_map}
 use Rattle.std.specs.Str.{bytes_eq}
@@ -11,7 +13,8 @@ use Rattle.mgf_reader.specs.Fault.{kind_number, kind_of_text}
 use Rattle.tree_document.specs.declared.entry.Mark.{Mark}
 use Rattle.tree_document.specs.declared.entry.Mark.TheVariants.{Optimal, Gap}
 use Rattle.tree_document.specs.Title.{are_bytes, escaped}
-use Rattle.tree_document.specs.Line.{Field, a_word, a_number, a_signed, a_formula, a_mark, a_kind, a_title, some_numbers, is_number}
+use Rattle.tree_document.specs.Line.{Field, a_word, a_number, a_signed, a_formula, a_mark, a_kind, a_title}
+use Rattle.tree_document.specs.Line.{some_numbers, is_number}
 
 abbrev pub is_space : ℕ → Bool
 is_space byte = byte == 32
@@ -72,7 +75,8 @@ pub data Kind : Type 0 where
   mark_kind : Kind
   kind_kind : Kind
 
--- what may stand behind them: nothing, a title, numbers, of which there may be none or not, or natural numbers, of which
+-- what may stand behind them: nothing, a title, numbers, of which there may be none or not, or natural numbers, of
+-- which
 -- there is one
 pub data Tail : Type 0 where
   no_tail : Tail
@@ -138,7 +142,11 @@ abbrev pub title_byte_at : List ℕ → Option (ℕ × List ℕ)
 title_byte_at text =
     if length text == 0 then None
     else (if slice_index text 0 == 92
-    then (if nat_lt (length text) 4 then None else Some (nibble_of (slice_index text 2) * 16 + nibble_of (slice_index text 3), drop 4 text))
+    then (if nat_lt (length text) 4 then None else Some (
+      nibble_of (slice_index text 2) * 16 + nibble_of
+          (slice_index text 3),
+      drop 4 text,
+    ))
     else Some (slice_index text 0, drop 1 text))
 
 -- the title that a spelling has, if it is one; and some title, if it is none

@@ -10,8 +10,10 @@ use Rattle.tree_document.specs.declared.heads.BodyHead.TheVariants.{Skipped, Lis
 use Rattle.tree_document.specs.declared.heads.EntryHead.{EntryHead}
 use Rattle.tree_document.specs.declared.heads.EntryHead.TheVariants.{TooLarge, Tree}
 use Rattle.tree_document.specs.declared.lines.RowFields.{RowFields}
-use Rattle.tree_document.specs.Line.{Line, clean_line, lists_line, prices_line, refused_line, row_line, skip_line, spectrum_line, split_line, too_large_line, tree_line}
-use Rattle.tree_certificate.specs.Number.{AreNear}
+use Rattle.tree_document.specs.Line.{Line, clean_line, greatest_weight, lists_line, prices_line, refused_line, row_line}
+use Rattle.tree_document.specs.Line.{skip_line, spectrum_line, split_line, too_large_line, tree_line}
+use Rattle.tree_certificate.specs.BoundHolds.{greatest_depth}
+use Rattle.tree_certificate.specs.Number.{AreNear, greatest_number}
 
 abbrev pub section_head_line : SectionHead → Line
 section_head_line (Spectrum line title) = spectrum_line line title
@@ -40,7 +42,7 @@ pub record IsSmallRow (it : RowFields) : Type 0 where
   pub edge : it.edge < 2 ^ 32
   pub parent : it.parent < 2 ^ 16
   pub peak : it.peak < 2 ^ 16
-  pub weight : unsigned_abs it.weight ≤ 100000
+  pub weight : unsigned_abs it.weight ≤ greatest_weight
 
 abbrev pub body_head_line : BodyHead → Line
 body_head_line (Skipped reason) = skip_line reason
@@ -54,7 +56,7 @@ entry_head_line (Tree candidate error score upper mark count) = tree_line candid
 abbrev pub IsSmallHead : EntryHead → Type 0
 IsSmallHead (TooLarge candidate error vertices) = vertices < 2 ^ 32
 IsSmallHead (Tree candidate error score upper mark count) =
-    (unsigned_abs score ≤ 1000000000000000) × (unsigned_abs upper ≤ 1000000000000000)
+    (unsigned_abs score ≤ greatest_number) × (unsigned_abs upper ≤ greatest_number)
 
 -- the line of a bound under so many splits
 abbrev pub bound_head_line : ℕ → BoundHead → Line
@@ -69,4 +71,4 @@ IsSmallBound (Split colour edges) = (colour < 2 ^ 16) × All (λ edge. edge < 2 
 -- a split stands where one may
 abbrev pub IsOpen : ℕ → BoundHead → Type 0
 IsOpen under (Prices prices) = Unit {0}
-IsOpen under (Split colour edges) = under < 1024
+IsOpen under (Split colour edges) = under < greatest_depth

@@ -1,10 +1,18 @@
 -- What may stand where something is needed, and what is needed behind it.
-use Rattle.std.specs.Prelude.{◌+◌, ◌==◌, ℕ, true, false, List, [], ◌∷◌, ◌++◌, codes, replicate, Option, Some, None, if◌then◌else◌}
+use Rattle.std.specs.Prelude.{◌+◌, ◌==◌, ℕ, true, false, List, [], ◌∷◌, ◌++◌, codes, replicate, Option, Some, None}
+use Rattle.std.specs.Prelude.{if◌then◌else◌}
 use Rattle.std.specs.Option.{option_map}
 use Rattle.tree_document.specs.declared.document.Skip.TheVariants.{NoPrecursor, Charge, Range, TooMany}
 use Rattle.tree_certificate.specs.Number.{greatest_number}
-use Rattle.tree_document.specs.Line.{Line, header_line, clean_line, refused_line, spectrum_line, skip_line, lists_line, list_line, formula_line, entries_line, too_large_line, tree_line, row_line, table_line, table_row_line, split_line, prices_line, potentials_line, done_line, greatest_line_number, greatest_peak_number, greatest_rows}
-use Rattle.tree_document.specs.inside.Field.{Kind, word_kind, number_kind, signed_kind, formula_kind, mark_kind, kind_kind, Tail, no_tail, title_tail, numbers_tail, naturals_tail, Values, form_at}
+use Rattle.tree_document.specs.Line.{Line, header_line, clean_line, refused_line, spectrum_line, skip_line, lists_line}
+use Rattle.tree_document.specs.Line.{list_line, formula_line, entries_line, too_large_line, tree_line, row_line}
+use Rattle.tree_document.specs.Line.{table_line, table_row_line, split_line, prices_line, potentials_line, done_line}
+use Rattle.tree_document.specs.Line.{greatest_edge, greatest_edges, greatest_error, greatest_line_number}
+use Rattle.tree_document.specs.Line.{greatest_listed, greatest_lists, greatest_numbers, greatest_peak_number}
+use Rattle.tree_document.specs.Line.{greatest_rows, greatest_weight}
+use Rattle.tree_document.specs.inside.Field.{Kind, word_kind, number_kind, signed_kind, formula_kind, mark_kind}
+use Rattle.tree_document.specs.inside.Field.{kind_kind, Tail, no_tail, title_tail, numbers_tail, naturals_tail, Values}
+use Rattle.tree_document.specs.inside.Field.{form_at}
 
 pub data Need : Type 0 where
   need_document : Need
@@ -122,7 +130,7 @@ too_many_shape = record {
 abbrev pub lists_shape : Shape
 lists_shape = record {
   word = codes "lists";
-  kinds = number_kind 1 41 ∷ [];
+  kinds = number_kind 1 greatest_lists ∷ [];
   tail = no_tail;
   make = λ values. lists_line values.0;
 }
@@ -130,7 +138,7 @@ lists_shape = record {
 abbrev pub list_shape : Shape
 list_shape = record {
   word = codes "list";
-  kinds = number_kind 0 greatest_peak_number ∷ number_kind 0 greatest_peak_number ∷ number_kind 0 20000 ∷ [];
+  kinds = number_kind 0 greatest_peak_number ∷ number_kind 0 greatest_peak_number ∷ number_kind 0 greatest_listed ∷ [];
   tail = no_tail;
   make = λ values. list_line values.0 values.1.0 values.1.1.0;
 }
@@ -146,7 +154,7 @@ formula_shape = record {
 abbrev pub entries_shape : Shape
 entries_shape = record {
   word = codes "entries";
-  kinds = number_kind 0 20000 ∷ [];
+  kinds = number_kind 0 greatest_listed ∷ [];
   tail = no_tail;
   make = λ values. entries_line values.0;
 }
@@ -154,7 +162,8 @@ entries_shape = record {
 abbrev pub too_large_shape : Shape
 too_large_shape = record {
   word = codes "entry";
-  kinds = formula_kind ∷ number_kind 0 2000000 ∷ word_kind (codes "too-large") ∷ number_kind 0 greatest_line_number
+  kinds = formula_kind ∷ number_kind 0 greatest_error ∷ word_kind (codes "too-large") ∷ number_kind 0
+      greatest_line_number
       ∷ [];
   tail = no_tail;
   make = λ values. too_large_line values.0 values.1.0 values.1.1.1.0;
@@ -163,7 +172,8 @@ too_large_shape = record {
 abbrev pub tree_shape : Shape
 tree_shape = record {
   word = codes "entry";
-  kinds = formula_kind ∷ number_kind 0 2000000 ∷ signed_kind greatest_number ∷ signed_kind greatest_number ∷ mark_kind
+  kinds = formula_kind ∷ number_kind 0 greatest_error ∷ signed_kind greatest_number ∷ signed_kind
+      greatest_number ∷ mark_kind
       ∷ number_kind 0 greatest_rows ∷ [];
   tail = no_tail;
   make = λ values. tree_line values.0 values.1.0 values.1.1.0 values.1.1.1.0 values.1.1.1.1.0 values.1.1.1.1.1.0;
@@ -172,8 +182,8 @@ tree_shape = record {
 abbrev pub row_shape : Shape
 row_shape = record {
   word = codes "r";
-  kinds = number_kind 0 131071 ∷ number_kind 0 greatest_rows ∷ number_kind 0 greatest_rows ∷ formula_kind
-      ∷ formula_kind ∷ signed_kind 100000 ∷ [];
+  kinds = number_kind 0 greatest_edge ∷ number_kind 0 greatest_rows ∷ number_kind 0 greatest_rows ∷ formula_kind
+      ∷ formula_kind ∷ signed_kind greatest_weight ∷ [];
   tail = no_tail;
   make = λ values. row_line (record {
     edge = values.0;
@@ -197,7 +207,7 @@ abbrev pub table_row_shape : Shape
 table_row_shape = record {
   word = codes "t";
   kinds = [];
-  tail = numbers_tail false 4096 greatest_number;
+  tail = numbers_tail false greatest_numbers greatest_number;
   make = λ values. table_row_line values;
 }
 
@@ -206,7 +216,7 @@ abbrev pub split_shape : ℕ → Shape
 split_shape above = record {
   word = codes "split";
   kinds = number_kind 0 greatest_rows ∷ [];
-  tail = naturals_tail 131072 131071;
+  tail = naturals_tail greatest_edges greatest_edge;
   make = λ values. split_line above values.0 values.1;
 }
 

@@ -4,4 +4,5 @@ use Rattle.rank_report.specs.Report as spec
 use Rattle.rank_report.proofs.lines.push_entries.Given as goal
 
 abbrev pub invariant-loop-place : goal.invariant-loop-place
-invariant-loop-place l = l.text.items ≡ l.initial.text.items ++ flat_map spec.entry_text (enumerate_from 1 (take l.place l.entries))
+invariant-loop-place l =
+    l.text.items ≡ l.initial.text.items ++ flat_map spec.entry_text (enumerate_from 1 (take l.place l.entries))

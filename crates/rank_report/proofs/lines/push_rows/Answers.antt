@@ -5,5 +5,6 @@ use Rattle.rank_report.proofs.lines.push_rows.Goals as goal
 
 pub loop-place-preserved : goal.loop-place-preserved
 loop-place-preserved c =
-    numbered_step spec.row_line 1 c.args.text.now.items c.args.rows.now c.loop-place.place _ c.index-rows-place.result _ _
+    numbered_step spec.row_line 1 c.args.text.now.items c.args.rows.now c.loop-place.place _ c.index-rows-place.result _
+    _
     (omega arith) c.index-rows-place.is (omega arith) c.loop-place.invariant c.in_ok-push_row.ensures

@@ -4,4 +4,5 @@ use Rattle.rank_report.specs.Report.{section_text_of}
 use Rattle.rank_report.proofs.report.push_sections.Given as goal
 
 abbrev pub invariant-loop-section : goal.invariant-loop-section
-invariant-loop-section l = l.text.items ≡ l.initial.text.items ++ flat_map section_text_of (take l.section-index l.sections)
+invariant-loop-section l =
+    l.text.items ≡ l.initial.text.items ++ flat_map section_text_of (take l.section-index l.sections)

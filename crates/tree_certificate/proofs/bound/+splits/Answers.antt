@@ -6,8 +6,10 @@ use Rattle.tree_certificate.proofs.bound.+splits.Goals as goal
 
 pub splits-requires : goal.splits-requires
 splits-requires t c =
-    let count = splits_of_split c.args.bound.now c.in-Split.field-0 c.in-Split.field-1 c.in-Split.first c.in-Split.second c.in-Split.is in
-    let deep = depth_of_split c.args.bound.now c.in-Split.field-0 c.in-Split.field-1 c.in-Split.first c.in-Split.second c.in-Split.is in
+    let count = splits_of_split c.args.bound.now c.in-Split.field-0 c.in-Split.field-1 c.in-Split.first
+    c.in-Split.second c.in-Split.is in
+    let deep = depth_of_split c.args.bound.now c.in-Split.field-0 c.in-Split.field-1 c.in-Split.first c.in-Split.second
+    c.in-Split.is in
     let one = ap (λ b. splits_of (bound_value b)) c.get.ensures in
     let other = ap (λ b. depth_of (bound_value b)) c.get.ensures in
     let at : splits_of (bound_value c.args.bound.now) ≡ t = c.decreases in
@@ -16,14 +18,17 @@ splits-requires t c =
 
 pub overflow_add-result : goal.overflow_add-result
 overflow_add-result t c =
-    let count = splits_of_split c.args.bound.now c.in-Split.field-0 c.in-Split.field-1 c.in-Split.first c.in-Split.second c.in-Split.is in
+    let count = splits_of_split c.args.bound.now c.in-Split.field-0 c.in-Split.field-1 c.in-Split.first
+    c.in-Split.second c.in-Split.is in
     let one = ap (λ b. splits_of (bound_value b)) c.get.ensures in
     omega (arith, count, one, c.requires.few, c.splits.ensures)
 
 pub splits-requires-in-Split : goal.splits-requires-in-Split
 splits-requires-in-Split t c =
-    let count = splits_of_split c.args.bound.now c.in-Split.field-0 c.in-Split.field-1 c.in-Split.first c.in-Split.second c.in-Split.is in
-    let deep = depth_of_split c.args.bound.now c.in-Split.field-0 c.in-Split.field-1 c.in-Split.first c.in-Split.second c.in-Split.is in
+    let count = splits_of_split c.args.bound.now c.in-Split.field-0 c.in-Split.field-1 c.in-Split.first
+    c.in-Split.second c.in-Split.is in
+    let deep = depth_of_split c.args.bound.now c.in-Split.field-0 c.in-Split.field-1 c.in-Split.first c.in-Split.second
+    c.in-Split.is in
     let one = ap (λ b. splits_of (bound_value b)) c.get-in-Split.ensures in
     let other = ap (λ b. depth_of (bound_value b)) c.get-in-Split.ensures in
     let at : splits_of (bound_value c.args.bound.now) ≡ t = c.decreases in
@@ -32,14 +37,16 @@ splits-requires-in-Split t c =
 
 pub overflow_add-result-in-Split : goal.overflow_add-result-in-Split
 overflow_add-result-in-Split t c =
-    let count = splits_of_split c.args.bound.now c.in-Split.field-0 c.in-Split.field-1 c.in-Split.first c.in-Split.second c.in-Split.is in
+    let count = splits_of_split c.args.bound.now c.in-Split.field-0 c.in-Split.field-1 c.in-Split.first
+    c.in-Split.second c.in-Split.is in
     let one = ap (λ b. splits_of (bound_value b)) c.get.ensures in
     let other = ap (λ b. splits_of (bound_value b)) c.get-in-Split.ensures in
     omega (arith, count, one, other, c.requires.few, c.splits.ensures, c.splits-in-Split.ensures)
 
 pub returns-in-Split : goal.returns-in-Split
 returns-in-Split t c =
-    let count = splits_of_split c.args.bound.now c.in-Split.field-0 c.in-Split.field-1 c.in-Split.first c.in-Split.second c.in-Split.is in
+    let count = splits_of_split c.args.bound.now c.in-Split.field-0 c.in-Split.field-1 c.in-Split.first
+    c.in-Split.second c.in-Split.is in
     let one = ap (λ b. splits_of (bound_value b)) c.get.ensures in
     let other = ap (λ b. splits_of (bound_value b)) c.get-in-Split.ensures in
     omega (arith, count, one, other, c.splits.ensures, c.splits-in-Split.ensures)

@@ -6,13 +6,19 @@ use Rattle.tree_document.proofs.bound_lines.bound_line.Goals as goal
 
 pub returns-in-Some-2 : goal.returns-in-Some-2
 returns-in-Some-2 c = λ above.
-    let none : None ≡ line_with prices_shape c.args.line.now = ap (option_map (λ prices. prices_line prices.items)) (sym c.in_default.is) ∙ c.in_ok-prices.ensures in
-    let read : Some (split_line above c.in-Some-2.colour c.in-Some-2.edges.items) ≡ line_with (split_shape above) c.args.line.now =
-    ap (option_map (λ parts. split_line above parts.0 parts.1.items)) (sym c.in-Some-2.is) ∙ c.in_ok-colour.ensures above in
+    let none : None ≡ line_with prices_shape c.args.line.now =
+    ap (option_map (λ prices. prices_line prices.items)) (sym c.in_default.is) ∙ c.in_ok-prices.ensures in
+    let read : Some (split_line above c.in-Some-2.colour c.in-Some-2.edges.items)
+    ≡ line_with (split_shape above) c.args.line.now =
+    ap (option_map (λ parts. split_line above parts.0 parts.1.items)) (sym c.in-Some-2.is)
+    ∙ c.in_ok-colour.ensures above in
     λ i. or_else (none i) (or_else (read i) None)
 
 pub returns-in-None : goal.returns-in-None
 returns-in-None c = λ above.
-    let none : None ≡ line_with prices_shape c.args.line.now = ap (option_map (λ prices. prices_line prices.items)) (sym c.in_default.is) ∙ c.in_ok-prices.ensures in
-    let other : None ≡ line_with (split_shape above) c.args.line.now = ap (option_map (λ parts. split_line above parts.0 parts.1.items)) (sym c.in-None.is) ∙ c.in_ok-colour.ensures above in
+    let none : None ≡ line_with prices_shape c.args.line.now =
+    ap (option_map (λ prices. prices_line prices.items)) (sym c.in_default.is) ∙ c.in_ok-prices.ensures in
+    let other : None ≡ line_with (split_shape above) c.args.line.now =
+    ap (option_map (λ parts. split_line above parts.0 parts.1.items)) (sym c.in-None.is)
+    ∙ c.in_ok-colour.ensures above in
     λ i. or_else (none i) (or_else (other i) None)

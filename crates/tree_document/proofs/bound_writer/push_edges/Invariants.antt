@@ -4,4 +4,5 @@ use Rattle.std.specs.List.{flat_map}
 use Rattle.tree_document.proofs.bound_writer.push_edges.Given as goal
 
 abbrev pub invariant-loop-edge : goal.invariant-loop-edge
-invariant-loop-edge l = l.text.items ≡ l.initial.text.items ++ flat_map (λ edge. codes " " ++ decimal edge) (take l.edge-index l.edges)
+invariant-loop-edge l =
+    l.text.items ≡ l.initial.text.items ++ flat_map (λ edge. codes " " ++ decimal edge) (take l.edge-index l.edges)

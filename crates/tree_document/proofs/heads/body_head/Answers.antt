@@ -7,10 +7,15 @@ pub returns-in_default : goal.returns-in_default
 returns-in_default c = head_end need_body c.args.bytes.now c.in_default.ensures
 
 pub returns-in_default-body_line : goal.returns-in_default-body_line
-returns-in_default-body_line c = head_bad need_body c.args.bytes.now c.in-Some.line.now c.in-Some.rest.now c.in-Some.ensures c.in_default-body_line.ensures
+returns-in_default-body_line c =
+    head_bad need_body c.args.bytes.now c.in-Some.line.now c.in-Some.rest.now c.in-Some.ensures
+    c.in_default-body_line.ensures
 
 pub returns : goal.returns
-returns c = head_took c.a_line_has_one_spelling.ensures need_body c.args.bytes.now c.in-Some.line.now c.in-Some.rest.now (body_head_line c.in-Some-body_line.head) c.in-Some.ensures c.in-Some-body_line.ensures c.if-not-is_body.ensures
+returns c = head_took c.a_line_has_one_spelling.ensures need_body c.args.bytes.now c.in-Some.line.now c.in-Some.rest.now
+    (body_head_line c.in-Some-body_line.head) c.in-Some.ensures c.in-Some-body_line.ensures c.if-not-is_body.ensures
 
 pub returns-then-not-is_body : goal.returns-then-not-is_body
-returns-then-not-is_body c = head_big need_body c.args.bytes.now c.in-Some.line.now c.in-Some.rest.now (body_head_line c.in-Some-body_line.head) c.in-Some.ensures c.in-Some-body_line.ensures c.if-not-is_body.ensures
+returns-then-not-is_body c =
+    head_big need_body c.args.bytes.now c.in-Some.line.now c.in-Some.rest.now (body_head_line c.in-Some-body_line.head)
+    c.in-Some.ensures c.in-Some-body_line.ensures c.if-not-is_body.ensures

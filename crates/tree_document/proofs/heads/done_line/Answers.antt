@@ -8,7 +8,10 @@ pub returns-in_default : goal.returns-in_default
 returns-in_default c = head_end need_done c.args.bytes.now c.in_default.ensures
 
 pub returns-in_default-done : goal.returns-in_default-done
-returns-in_default-done c = head_bad need_done c.args.bytes.now c.in-Some.line.now c.in-Some.rest.now c.in-Some.ensures (ap (λ o. or_else o None) c.in_default-done.ensures)
+returns-in_default-done c =
+    head_bad need_done c.args.bytes.now c.in-Some.line.now c.in-Some.rest.now c.in-Some.ensures
+    (ap (λ o. or_else o None) c.in_default-done.ensures)
 
 pub returns : goal.returns
-returns c = head_took c.a_line_has_one_spelling.ensures need_done c.args.bytes.now c.in-Some.line.now c.in-Some.rest.now (spec.done_line) c.in-Some.ensures (ap (λ o. or_else o None) c.in-Some-done.ensures) refl
+returns c = head_took c.a_line_has_one_spelling.ensures need_done c.args.bytes.now c.in-Some.line.now c.in-Some.rest.now
+    (spec.done_line) c.in-Some.ensures (ap (λ o. or_else o None) c.in-Some-done.ensures) refl

@@ -10,11 +10,18 @@ pub returns-in_default : goal.returns-in_default
 returns-in_default c = head_end need_row c.args.bytes.now c.in_default.ensures
 
 pub returns-in_default-row : goal.returns-in_default-row
-returns-in_default-row c = head_bad need_row c.args.bytes.now c.in-Some.line.now c.in-Some.rest.now c.in-Some.ensures (ap (λ o. or_else o None) c.in_default-row.ensures)
+returns-in_default-row c =
+    head_bad need_row c.args.bytes.now c.in-Some.line.now c.in-Some.rest.now c.in-Some.ensures
+    (ap (λ o. or_else o None) c.in_default-row.ensures)
 
 pub returns-then-not-is_row : goal.returns-then-not-is_row
-returns-then-not-is_row c = head_big need_row c.args.bytes.now c.in-Some.line.now c.in-Some.rest.now (row_fields_line c.in-Some-row.fields) c.in-Some.ensures (ap (λ o. or_else o None) c.in-Some-row.ensures) c.if-not-is_row.ensures.exactly
+returns-then-not-is_row c =
+    head_big need_row c.args.bytes.now c.in-Some.line.now c.in-Some.rest.now (row_fields_line c.in-Some-row.fields)
+    c.in-Some.ensures (ap (λ o. or_else o None) c.in-Some-row.ensures) c.if-not-is_row.ensures.exactly
 
 pub returns : goal.returns
-returns c = subst (λ (l : spec.Line). Took (need_row ∷ []) (next_needs (follow need_row l)) (l ∷ []) c.args.bytes.now c.in-Some.rest.now) (sym c.tree_row.ensures)
-    (head_took c.a_line_has_one_spelling.ensures need_row c.args.bytes.now c.in-Some.line.now c.in-Some.rest.now (row_fields_line c.in-Some-row.fields) c.in-Some.ensures (ap (λ o. or_else o None) c.in-Some-row.ensures) c.if-not-is_row.ensures.exactly)
+returns c = subst (λ (l : spec.Line). Took (need_row ∷ []) (next_needs (follow need_row l)) (l ∷ []) c.args.bytes.now
+    c.in-Some.rest.now) (sym c.tree_row.ensures)
+    (head_took c.a_line_has_one_spelling.ensures need_row c.args.bytes.now c.in-Some.line.now c.in-Some.rest.now
+    (row_fields_line c.in-Some-row.fields) c.in-Some.ensures (ap (λ o. or_else o None) c.in-Some-row.ensures)
+    c.if-not-is_row.ensures.exactly)

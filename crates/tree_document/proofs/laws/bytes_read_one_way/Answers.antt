@@ -1,6 +1,7 @@
 use Rattle.std.proofs.Common.{refl}
 use Rattle.tree_document.proofs.FieldKinds.{Known}
 use Rattle.tree_document.proofs.OneReading.{one_reading, read_again}
+use Rattle.tree_document.proofs.SomeReading.{some_reading}
 use Rattle.tree_document.proofs.laws.bytes_read_one_way.Goals as goal
 
 pub returns : goal.returns
@@ -14,4 +15,9 @@ returns c =
       text = c.a_kind_has_one_number_and_one_word.ensures.text;
       spelled = c.a_kind_has_one_number_and_one_word.ensures.spelled;
     } in
-    record { one = one_reading known; spelling = λ document good. (good, refl); again = read_again known }
+    record {
+      some = some_reading known;
+      one = one_reading known;
+      spelling = λ document good. (good, refl);
+      again = read_again known;
+    }

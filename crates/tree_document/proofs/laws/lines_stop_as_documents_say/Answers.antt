@@ -1,5 +1,6 @@
 use Rattle.tree_document.proofs.FieldKinds.{Known}
-use Rattle.tree_document.proofs.Refusing.{bad_line, bad_within, big_line, big_within, cut_short, deep_line, deep_within, past_end}
+use Rattle.tree_document.proofs.Refusing.{bad_line, bad_within, big_line, big_within, cut_short, deep_line, deep_within}
+use Rattle.tree_document.proofs.Refusing.{past_end}
 use Rattle.tree_document.proofs.laws.lines_stop_as_documents_say.Goals as goal
 
 pub returns : goal.returns

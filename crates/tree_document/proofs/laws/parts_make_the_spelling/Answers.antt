@@ -10,4 +10,5 @@ pub returns : goal.returns
 returns c = λ document.
     let end = text_of (ending_line document.ending ∷ []) in
     ap (λ t. text_of (header_line ∷ []) ++ t)
-    (text_of-append (flat_map section_lines document.sections) (ending_line document.ending ∷ []) ∙ ap (λ t. t ++ end) (text_of_flat section_lines document.sections))
+    (text_of-append (flat_map section_lines document.sections) (ending_line document.ending ∷ [])
+    ∙ ap (λ t. t ++ end) (text_of_flat section_lines document.sections))

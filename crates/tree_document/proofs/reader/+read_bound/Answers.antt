@@ -11,18 +11,25 @@ use Rattle.tree_document.proofs.reader.+read_bound.Goals as goal
 pub returns-in-Err-read_bound-2 : goal.returns-in-Err-read_bound-2
 returns-in-Err-read_bound-2 t c =
     let head : TookSplit c.args.under c.in-Split.colour c.in-Split.edges.items c.args.bytes.now c.in-Ok.both.1.now =
-    subst (λ line. Took (need_bound c.args.under ∷ []) (next_needs (follow (need_bound c.args.under) (bound_head_line c.args.under line))) (bound_head_line c.args.under line ∷ []) c.args.bytes.now c.in-Ok.both.1.now) c.in-Split.is c.in-Ok.ensures.taken in
-    second_stops c.args.under c.in-Split.colour c.in-Split.edges.items c.args.bytes.now c.in-Ok.both.1.now c.in-Ok-read_bound.both.1.now c.in-Ok-read_bound.both.0 c.in-Err-read_bound-2.stop
+    subst (λ line. Took (need_bound c.args.under ∷ []) (next_needs
+    (follow (need_bound c.args.under) (bound_head_line c.args.under line))) (bound_head_line c.args.under line ∷ [])
+    c.args.bytes.now c.in-Ok.both.1.now) c.in-Split.is c.in-Ok.ensures.taken in
+    second_stops c.args.under c.in-Split.colour c.in-Split.edges.items c.args.bytes.now c.in-Ok.both.1.now
+    c.in-Ok-read_bound.both.1.now c.in-Ok-read_bound.both.0 c.in-Err-read_bound-2.stop
     head c.in-Ok-read_bound.ensures c.in-Err-read_bound-2.ensures
 
 pub returns-in_ok-second-in-Split : goal.returns-in_ok-second-in-Split
 returns-in_ok-second-in-Split t c =
     let head : TookSplit c.args.under c.in-Split.colour c.in-Split.edges.items c.args.bytes.now c.in-Ok.both.1.now =
-    subst (λ line. Took (need_bound c.args.under ∷ []) (next_needs (follow (need_bound c.args.under) (bound_head_line c.args.under line))) (bound_head_line c.args.under line ∷ []) c.args.bytes.now c.in-Ok.both.1.now) c.in-Split.is c.in-Ok.ensures.taken in
+    subst (λ line. Took (need_bound c.args.under ∷ []) (next_needs
+    (follow (need_bound c.args.under) (bound_head_line c.args.under line))) (bound_head_line c.args.under line ∷ [])
+    c.args.bytes.now c.in-Ok.both.1.now) c.in-Split.is c.in-Ok.ensures.taken in
     let edges : c.in-Split.edges.items ≡ c.in_ok-edges-in-Split.edges = sym c.in_ok-edges-in-Split.ensures in
     let first : c.in-Ok-read_bound.both.0 ≡ c.in_ok-first-in-Split.first = sym c.in_ok-first-in-Split.ensures in
     let second : c.in-Ok-read_bound-2.both.0 ≡ c.in_ok-second-in-Split.second = sym c.in_ok-second-in-Split.ensures in
-    subst (λ (lines : List _). Took (need_bound c.args.under ∷ []) [] lines c.args.bytes.now c.in-Ok-read_bound-2.both.1.now)
+    subst (λ (lines : List _). Took (need_bound c.args.under ∷ []) [] lines c.args.bytes.now
+    c.in-Ok-read_bound-2.both.1.now)
     (λ i. bound_lines c.args.under (bound_value (Split c.in-Split.colour (edges i) (first i) (second i))))
-    (both_took c.args.under c.in-Split.colour c.in-Split.edges.items c.args.bytes.now c.in-Ok.both.1.now c.in-Ok-read_bound.both.1.now c.in-Ok-read_bound-2.both.1.now
+    (both_took c.args.under c.in-Split.colour c.in-Split.edges.items c.args.bytes.now c.in-Ok.both.1.now
+    c.in-Ok-read_bound.both.1.now c.in-Ok-read_bound-2.both.1.now
     c.in-Ok-read_bound.both.0 c.in-Ok-read_bound-2.both.0 head c.in-Ok-read_bound.ensures c.in-Ok-read_bound-2.ensures)

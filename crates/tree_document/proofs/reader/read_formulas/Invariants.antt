@@ -7,7 +7,8 @@ use Rattle.tree_document.proofs.reader.read_formulas.Given as goal
 
 abbrev pub invariant-loop-left : goal.invariant-loop-left
 invariant-loop-left l = record {
-  took : Took (replicate l.fn.count need_formula) (replicate l.left need_formula) (map (λ counts. spec.formula_line counts) l.items.items) l.fn.bytes l.rest;
+  took : Took (replicate l.fn.count need_formula) (replicate l.left need_formula)
+      (map (λ counts. spec.formula_line counts) l.items.items) l.fn.bytes l.rest;
   all : length l.items.items + l.left ≡ l.fn.count;
 }
 

@@ -11,7 +11,11 @@ loop-left-preserved c =
     let pushed : c.push.new.self.items ≡ c.loop-left.items.items ++ c.in-Ok.both.0 ∷ [] = c.in_ok-push.ensures.items in
     let some : 0 < c.loop-left.left = omega arith in
     record {
-      took = flat_took (λ list. spec.list_lines list) _ _ c.loop-left.items.items c.push.new.self.items c.in-Ok.both.0 c.args.bytes.now c.in-Ok.both.1.now pushed
-          (one_took (replicate c.args.count need_list) need_list c.loop-left.left (flat_map (λ list. spec.list_lines list) c.loop-left.items.items) _ c.args.bytes.now c.loop-left.rest.now c.in-Ok.both.1.now some c.loop-left.invariant.took c.in-Ok.ensures);
-      all = one_longer c.loop-left.items.items c.push.new.self.items c.in-Ok.both.0 c.loop-left.left c.args.count pushed some c.loop-left.invariant.all;
+      took = flat_took (λ list. spec.list_lines list) _ _ c.loop-left.items.items c.push.new.self.items c.in-Ok.both.0
+          c.args.bytes.now c.in-Ok.both.1.now pushed
+          (one_took (replicate c.args.count need_list) need_list c.loop-left.left
+          (flat_map (λ list. spec.list_lines list) c.loop-left.items.items) _ c.args.bytes.now c.loop-left.rest.now
+          c.in-Ok.both.1.now some c.loop-left.invariant.took c.in-Ok.ensures);
+      all = one_longer c.loop-left.items.items c.push.new.self.items c.in-Ok.both.0 c.loop-left.left c.args.count pushed
+          some c.loop-left.invariant.all;
     }

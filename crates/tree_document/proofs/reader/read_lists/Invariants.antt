@@ -8,7 +8,8 @@ use Rattle.tree_document.proofs.reader.read_lists.Given as goal
 
 abbrev pub invariant-loop-left : goal.invariant-loop-left
 invariant-loop-left l = record {
-  took : Took (replicate l.fn.count need_list) (replicate l.left need_list) (flat_map (λ list. spec.list_lines list) l.items.items) l.fn.bytes l.rest;
+  took : Took (replicate l.fn.count need_list) (replicate l.left need_list)
+      (flat_map (λ list. spec.list_lines list) l.items.items) l.fn.bytes l.rest;
   all : length l.items.items + l.left ≡ l.fn.count;
 }
 

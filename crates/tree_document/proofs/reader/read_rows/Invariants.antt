@@ -7,7 +7,8 @@ use Rattle.tree_document.proofs.reader.read_rows.Given as goal
 
 abbrev pub invariant-loop-left : goal.invariant-loop-left
 invariant-loop-left l = record {
-  took : Took (replicate l.fn.count need_row) (replicate l.left need_row) (map (λ it. spec.row_line it) l.items.items) l.fn.bytes l.rest;
+  took : Took (replicate l.fn.count need_row) (replicate l.left need_row) (map (λ it. spec.row_line it) l.items.items)
+      l.fn.bytes l.rest;
   all : length l.items.items + l.left ≡ l.fn.count;
 }
 

@@ -6,7 +6,8 @@ use Rattle.tree_document.specs.inside.Verdict.{Took}
 use Rattle.tree_document.proofs.reader.read_sections.Given as goal
 
 abbrev pub invariant-sections : goal.invariant-sections
-invariant-sections l = Took (need_sections ∷ []) (need_sections ∷ []) (flat_map section_lines l.sections.items) l.fn.bytes l.rest
+invariant-sections l =
+    Took (need_sections ∷ []) (need_sections ∷ []) (flat_map section_lines l.sections.items) l.fn.bytes l.rest
 
 abbrev pub decreases-sections : goal.decreases-sections
 decreases-sections l = length l.rest

@@ -9,7 +9,8 @@ use Rattle.tree_document.proofs.reader.read_table_rows.Given as goal
 
 abbrev pub invariant-loop-left : goal.invariant-loop-left
 invariant-loop-left l = record {
-  took : Took (replicate l.fn.count need_table_row) (replicate l.left need_table_row) (map (λ row. spec.table_row_line row.items) l.items.items) l.fn.bytes l.rest;
+  took : Took (replicate l.fn.count need_table_row) (replicate l.left need_table_row)
+      (map (λ row. spec.table_row_line row.items) l.items.items) l.fn.bytes l.rest;
   near : IsTrue (list_all (λ row. list_all (is_near greatest_number) row.items) l.items.items);
   all : length l.items.items + l.left ≡ l.fn.count;
 }

@@ -7,4 +7,5 @@ use Rattle.tree_document.proofs.writer.push_cert.Goals as goal
 pub returns-in_ok-push_table-in-Table : goal.returns-in_ok-push_table-in-Table
 returns-in_ok-push_table-in-Table c =
     let table : a_table (map (λ row. row.items) c.rows.result.now) ≡ cert_of c.args.cert.now = search rules in
-    c.in_ok-push_table-in-Table.ensures ∙ ap (λ lines. c.args.text.now.items ++ text_of lines) (table_lines (λ row. row.items) c.rows.result.now ∙ ap cert_lines table)
+    c.in_ok-push_table-in-Table.ensures ∙ ap (λ lines. c.args.text.now.items ++ text_of lines)
+    (table_lines (λ row. row.items) c.rows.result.now ∙ ap cert_lines table)

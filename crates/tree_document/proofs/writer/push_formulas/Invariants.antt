@@ -5,4 +5,6 @@ use Rattle.tree_document.specs.Line as spec
 use Rattle.tree_document.proofs.writer.push_formulas.Given as goal
 
 abbrev pub invariant-loop-formula : goal.invariant-loop-formula
-invariant-loop-formula l = l.text.items ≡ l.initial.text.items ++ flat_map (λ counts. spec.line_text (spec.formula_line counts) ++ codes "\n") (take l.formula-index l.formulas)
+invariant-loop-formula l =
+    l.text.items ≡ l.initial.text.items ++ flat_map (λ counts. spec.line_text (spec.formula_line counts) ++ codes "\n")
+    (take l.formula-index l.formulas)

@@ -5,5 +5,6 @@ use Rattle.tree_document.proofs.TextOf.{head_and_groups}
 use Rattle.tree_document.proofs.writer.push_lists.Goals as goal
 
 pub returns : goal.returns
-returns c = head_and_groups c.args.text.now.items c.push_counted.new.text.items c.push_each_list.new.text.items (spec.lists_line (length c.args.lists.now)) list_lines c.args.lists.now
+returns c = head_and_groups c.args.text.now.items c.push_counted.new.text.items c.push_each_list.new.text.items
+    (spec.lists_line (length c.args.lists.now)) list_lines c.args.lists.now
     c.in_ok-push_counted.ensures c.in_ok-push_each_list.ensures

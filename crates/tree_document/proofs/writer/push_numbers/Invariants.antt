@@ -5,4 +5,6 @@ use Rattle.std.specs.List.{flat_map}
 use Rattle.tree_document.proofs.writer.push_numbers.Given as goal
 
 abbrev pub invariant-loop-number : goal.invariant-loop-number
-invariant-loop-number l = l.text.items ≡ l.initial.text.items ++ flat_map (λ number. codes " " ++ signed_decimal number) (take l.number-index l.numbers)
+invariant-loop-number l =
+    l.text.items ≡ l.initial.text.items ++ flat_map (λ number. codes " " ++ signed_decimal number)
+    (take l.number-index l.numbers)

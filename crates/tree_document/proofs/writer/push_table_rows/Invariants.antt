@@ -5,4 +5,6 @@ use Rattle.tree_document.specs.Line as spec
 use Rattle.tree_document.proofs.writer.push_table_rows.Given as goal
 
 abbrev pub invariant-loop-row : goal.invariant-loop-row
-invariant-loop-row l = l.text.items ≡ l.initial.text.items ++ flat_map (λ row. spec.line_text (spec.table_row_line row.items) ++ codes "\n") (take l.row-index l.rows)
+invariant-loop-row l =
+    l.text.items ≡ l.initial.text.items ++ flat_map (λ row. spec.line_text (spec.table_row_line row.items)
+    ++ codes "\n") (take l.row-index l.rows)

@@ -20,8 +20,13 @@ returns c =
     let old = c.args.text.now.items in
     let rows = c.items.ensures ∙ ap (λ tree. tree.rows) c.tree.view_is in
     (simp to_z-of_z at c.in_ok-push_scores.ensures)
-    ∙ ap (λ t. t ++ ((codes " " ++ signed_decimal c.tree.inside.score) ++ ((codes " " ++ signed_decimal c.tree.inside.upper)
-    ++ (spec.field_text (spec.a_mark c.tree.inside.mark) ++ ((codes " " ++ decimal (length c.items.result.now)) ++ codes "\n"))))) c.in_ok-push_candidate.ensures
-    ∙ regroup old (codes "entry") (spec.field_text (spec.a_formula c.args.candidate.now)) (codes " " ++ decimal c.args.error) (codes " " ++ signed_decimal c.tree.inside.score)
-    (codes " " ++ signed_decimal c.tree.inside.upper) (spec.field_text (spec.a_mark c.tree.inside.mark)) (codes " " ++ decimal (length c.items.result.now)) (codes "\n")
-    ∙ (λ i. old ++ (spec.line_text (spec.tree_line c.args.candidate.now c.args.error (c.tree.view_is i).score (c.tree.view_is i).upper (c.tree.view_is i).mark (length (rows i))) ++ codes "\n"))
+    ∙ ap (λ t. t ++ ((codes " " ++ signed_decimal c.tree.inside.score)
+    ++ ((codes " " ++ signed_decimal c.tree.inside.upper)
+    ++ (spec.field_text (spec.a_mark c.tree.inside.mark) ++ ((codes " " ++ decimal (length c.items.result.now))
+    ++ codes "\n"))))) c.in_ok-push_candidate.ensures
+    ∙ regroup old (codes "entry") (spec.field_text (spec.a_formula c.args.candidate.now))
+    (codes " " ++ decimal c.args.error) (codes " " ++ signed_decimal c.tree.inside.score)
+    (codes " " ++ signed_decimal c.tree.inside.upper) (spec.field_text (spec.a_mark c.tree.inside.mark))
+    (codes " " ++ decimal (length c.items.result.now)) (codes "\n")
+    ∙ (λ i. old ++ (spec.line_text (spec.tree_line c.args.candidate.now c.args.error (c.tree.view_is i).score
+    (c.tree.view_is i).upper (c.tree.view_is i).mark (length (rows i))) ++ codes "\n"))
