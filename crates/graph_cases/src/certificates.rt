@@ -1,8 +1,8 @@
 //! Certificates of graphs, and where they fail first.
 ghost use Rattle.std.specs.Prelude.{◌≡◌, ◌≤◌, IfOk, length};
 ghost use Rattle.colour_graph.specs.Graph.{greatest_graph};
-ghost use Rattle.tree_certificate.specs.CertHolds.{cert_depth, cert_splits};
-ghost use Rattle.tree_certificate.specs.Value.{cert_of};
+ghost use Rattle.tree_certificate.specs.BoundHolds.{depth_of, splits_of};
+ghost use Rattle.tree_certificate.specs.BoundView.{bound_value};
 
 use crate::numbers::{number, numbers, place};
 use certificate_checker::{check_cert, check_prices};
@@ -57,14 +57,14 @@ pub fn split(rt: &HostRuntime, graph: &ColourGraph, case: &str) -> io::Result<()
     requires { length graph.now.colours ≤ greatest_graph }
 {
     let (upper, rest) = case.split_once('|').unwrap_or((case, ""));
-    let (fork, sides) = rest.split_once('|').unwrap_or((rest, ""));
+    let (text, sides) = rest.split_once('|').unwrap_or((rest, ""));
     let (first, second) = sides.split_once('|').unwrap_or((sides, ""));
     match (
         prices_of(rt.alloc(), first)?,
         prices_of(rt.alloc(), second)?,
     ) {
         (Some(first), Some(second)) => {
-            let cert = split_of(rt.alloc(), fork, first, second)?;
+            let cert = Cert::Bounds(split_of(rt.alloc(), text, first, second)?);
             let verdict = check_cert(rt.alloc(), graph, &cert, number(upper))?;
             println!(rt; "  {verdict:?}")
         }
@@ -72,21 +72,23 @@ pub fn split(rt: &HostRuntime, graph: &ColourGraph, case: &str) -> io::Result<()
     }
 }
 
-/// The certificate of one split.
+/// The bound of one split, whose colour and part stand in a text.
 fn split_of(
     alloc: Global,
-    fork: &str,
+    text: &str,
     first: PriceCert,
     second: PriceCert,
-) -> Result<Cert, AllocError>
-    ensures { IfOk result (λ cert. (cert_depth (cert_of cert) ≡ 1) × (cert_splits (cert_of cert) ≡ 1)) }
+) -> Result<Bound, AllocError>
+    ensures depth { IfOk result (λ bound. depth_of (bound_value bound) ≡ 1) }
+    ensures splits { IfOk result (λ bound. splits_of (bound_value bound) ≡ 1) }
 {
-    let (colour, edges) = fork.split_once(' ').unwrap_or((fork, ""));
+    let (word, edges) = text.split_once(' ').unwrap_or((text, ""));
+    let colour = place(word);
     let mut part = Vec::new(alloc);
     for edge in edges.split_whitespace() {
         part.push(u32::from(place(edge)))?;
     }
     let first = Boxed::new(alloc, Bound::Priced(first))?;
     let second = Boxed::new(alloc, Bound::Priced(second))?;
-    Ok(Cert::Bounds(Bound::Split(place(colour), Items::from_vec(part), first, second)))
+    Ok(Bound::Split(colour, Items::from_vec(part), first, second))
 }

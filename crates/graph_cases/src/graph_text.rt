@@ -1,6 +1,6 @@
 //! A graph from its text: the root's score, and behind each semicolon the colour of the next vertex with the edges into
 //! it, each as its tail, a colon and its weight. What no graph may have is left out.
-ghost use Rattle.std.specs.Prelude.{◌≡◌, ◌≤◌, ◌<◌, ◌-◌, OnOk, length, pos};
+ghost use Rattle.std.specs.Prelude.{◌≡◌, ◌≤◌, ◌<◌, ◌+◌, ◌-◌, IsTrue, OnOk, length, pos, slice_index};
 ghost use Rattle.colour_graph.specs.Building.{ComesNext};
 ghost use Rattle.colour_graph.specs.Graph.{greatest_vertices};
 
@@ -27,20 +27,31 @@ fn add_vertex(
     text: &str,
 ) -> Result<(), AllocError>
     requires colours { builder.old.colours ≡ colours.old.items }
+    requires some { 0 < length colours.old.items }
     requires next { ComesNext builder.old (record { tail = 0; head = length colours.old.items; weight = pos 0 }) }
     ensures colours { OnOk result (builder.new.colours ≡ colours.new.items) }
+    ensures some { OnOk result (0 < length colours.new.items) }
     ensures next { OnOk result
         (ComesNext builder.new (record { tail = 0; head = length colours.new.items; weight = pos 0 })) }
 {
     let mut words = text.split_whitespace();
     let colour = place(words.next().unwrap_or(""));
-    let last = colours[colours.len() - 1];
-    if colours.len() >= 4096 || colour == 0 || colour < last || colour - last > 1 {
+    if colours.len() >= 4096 || !comes_next(colours, colour) {
         return Ok(());
     }
     builder.vertex(colour)?;
     colours.push(colour)?;
     add_edges(builder, colours, words)
+}
+
+/// Whether the next vertex may have a colour.
+fn comes_next(colours: &[Colour], colour: Colour) -> bool
+    requires { 0 < length colours.now }
+    ensures { IsTrue result → (0 < colour) × (slice_index colours.now (length colours.now - 1) ≤ colour)
+        × (colour ≤ slice_index colours.now (length colours.now - 1) + 1) }
+{
+    let last = colours[colours.len() - 1];
+    0 < colour && last <= colour && colour - last <= 1
 }
 
 /// Adds the edges of words into the last vertex.

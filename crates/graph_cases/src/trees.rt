@@ -28,9 +28,11 @@ pub fn solve(rt: &HostRuntime, graph: &ColourGraph) -> io::Result<()>
 /// Prints how many edges of a set go to each colour.
 pub fn count(rt: &HostRuntime, graph: &ColourGraph, side: &str) -> io::Result<()> {
     let set = side_of(rt.alloc(), graph, side)?;
-    for before in 0..graph.colour_count() {
-        let count = set.into_colour(graph, before as u16 + 1);
-        println!(rt; "  {count}")?;
+    for colour in 1..=GREATEST_COLOURS as u16 {
+        if u32::from(colour) <= graph.colour_count() {
+            let count = set.into_colour(graph, colour);
+            println!(rt; "  {count}")?;
+        }
     }
     Ok(())
 }
