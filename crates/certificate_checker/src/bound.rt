@@ -1,10 +1,11 @@
 //! Whether prices and splits hold, and the first place where they fail.
 ghost use Rattle.std.specs.Prelude.{◌≡◌, ◌≤◌, ◌<◌, ◌+◌, ◌^◌, ◌↔◌, IfOk, Ok, length};
 ghost use Rattle.colour_graph.specs.EdgeSet.{IsSetOf, all_edges};
-ghost use Rattle.tree_certificate.specs.BoundHolds.{BoundHolds, depth_of, nodes_of, splits_of};
+ghost use Rattle.tree_certificate.specs.BoundHolds.{BoundHolds, depth_of, greatest_depth, nodes_of, splits_of};
 ghost use Rattle.tree_certificate.specs.BoundView.{bound_value};
 ghost use Rattle.certificate_checker.specs.BoundPlaces.{IsBoundVerdict, IsVerdictFrom};
 ghost use Rattle.certificate_checker.specs.declared.verdict.Verdict.TheVariants.{Holds};
+ghost use Rattle.colour_graph.specs.Graph.{greatest_graph};
 
 use crate::prices::wrong_prices;
 use crate::sides::{give_back, keep_only, put_part, take_part, wrong_split};
@@ -13,7 +14,7 @@ use colour_graph::{Allowed, ColourGraph, EdgeId};
 use std::alloc::{AllocError, Global};
 use tree_certificate::Bound;
 
-/// Whether prices and splits hold for an upper bound of a graph of at most 512 vertices, or the first place where they
+/// Whether prices and splits hold for an upper bound of a graph of at most `GREATEST_GRAPH` vertices, or the first place where they
 /// fail.
 pub(crate) fn check_bound(
     alloc: Global,
@@ -21,8 +22,8 @@ pub(crate) fn check_bound(
     bound: &Bound,
     upper: i64,
 ) -> Result<Verdict, AllocError>
-    requires vertices { length graph.now.colours ≤ 512 }
-    requires depth { depth_of (bound_value bound.now) ≤ 1024 }
+    requires vertices { length graph.now.colours ≤ greatest_graph }
+    requires depth { depth_of (bound_value bound.now) ≤ greatest_depth }
     requires few { splits_of (bound_value bound.now) < 2 ^ 31 }
     ensures verdict { IfOk result
         (λ verdict. IsBoundVerdict graph.now (all_edges graph.now) (bound_value bound.now) upper verdict) }
@@ -46,8 +47,8 @@ fn check_node(
     taken: &mut Vec<EdgeId>,
     next: &mut u32,
 ) -> Result<Verdict, AllocError>
-    requires vertices { length graph.now.colours ≤ 512 }
-    requires depth { depth_of (bound_value bound.now) ≤ 1024 }
+    requires vertices { length graph.now.colours ≤ greatest_graph }
+    requires depth { depth_of (bound_value bound.now) ≤ greatest_depth }
     requires few { next.old + nodes_of (bound_value bound.now) < 2 ^ 32 }
     requires set { IsSetOf graph.now allowed.old }
     ensures verdict { IfOk result

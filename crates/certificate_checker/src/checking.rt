@@ -6,6 +6,8 @@ ghost use Rattle.tree_certificate.specs.CertHolds.{CertHolds, cert_depth, cert_s
 ghost use Rattle.tree_certificate.specs.Value.{cert_of};
 ghost use Rattle.certificate_checker.specs.Places.{IsVerdict};
 ghost use Rattle.certificate_checker.specs.declared.verdict.Verdict.TheVariants.{Holds};
+ghost use Rattle.colour_graph.specs.Graph.{greatest_graph};
+ghost use Rattle.tree_certificate.specs.BoundHolds.{greatest_depth};
 
 use crate::bound::check_bound;
 use crate::table::check_table;
@@ -14,7 +16,7 @@ use colour_graph::ColourGraph;
 use std::alloc::{AllocError, Global};
 use tree_certificate::{Cert, what_holds_bounds_every_tree};
 
-/// Whether a certificate holds for an upper bound of a graph of at most 512 vertices, or the first place where it
+/// Whether a certificate holds for an upper bound of a graph of at most `GREATEST_GRAPH` vertices, or the first place where it
 /// fails. One that holds shows that no colourful list of edges scores more.
 pub fn check_cert(
     alloc: Global,
@@ -22,8 +24,8 @@ pub fn check_cert(
     cert: &Cert,
     upper: i64,
 ) -> Result<Verdict, AllocError>
-    requires vertices { length graph.now.colours ≤ 512 }
-    requires depth { cert_depth (cert_of cert.now) ≤ 1024 }
+    requires vertices { length graph.now.colours ≤ greatest_graph }
+    requires depth { cert_depth (cert_of cert.now) ≤ greatest_depth }
     requires few { cert_splits (cert_of cert.now) < 2 ^ 31 }
     ensures verdict { IfOk result (λ verdict. IsVerdict graph.now (cert_of cert.now) upper verdict) }
     ensures exactly { IfOk result (λ verdict. (verdict ≡ Holds) ↔ CertHolds graph.now (cert_of cert.now) upper) }

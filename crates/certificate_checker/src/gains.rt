@@ -2,7 +2,7 @@
 ghost use Rattle.std.specs.Prelude.{◌≡◌, ◌≤◌, ◌<◌, ◌*◌, ◌-◌, ◌^◌, ◌+ℤ◌, ℕ, false, length, map};
 ghost use Rattle.colour_graph.specs.Graph.{IsScore, colour_count};
 ghost use Rattle.tree_certificate.specs.Number.{AreNumbers};
-ghost use Rattle.tree_certificate.specs.TableHolds.{FitsGraph, row_at};
+ghost use Rattle.tree_certificate.specs.TableHolds.{FitsGraph, greatest_colours, row_at};
 ghost use Rattle.certificate_checker.specs.inside.Enough.{AreGainsBefore, AreGainsBelow, AreNoGains, AreNumbersBelow};
 ghost use Rattle.certificate_checker.specs.inside.Enough.{IsGain, IsNumber, IsRaised, number_in};
 
@@ -21,9 +21,9 @@ pub(crate) fn row_of(rows: &[Vec<i64>], vertex: usize) -> &[i64]
 
 /// Copies each number that stands at a multiple of a step.
 pub(crate) fn copy_numbers(row: &[i64], step: usize, own: &mut [i64])
-    requires few { length row.now ≤ 4096 }
+    requires few { length row.now ≤ 2 ^ greatest_colours }
     requires numbers { AreNumbersBelow row.now (length row.now) }
-    requires step { (0 < step) × (step ≤ 4096) }
+    requires step { (0 < step) × (step ≤ 2 ^ greatest_colours) }
     requires room { length own.old * step ≡ length row.now }
     ensures length { length own.new ≡ length own.old }
     ensures copied { (place : ℕ) → place < length own.old → number_in own.new place ≡ number_in row.now (step * place) }
@@ -88,7 +88,7 @@ fn clear_gains(gains: &mut [i64])
 fn set_gains(gains: &mut [i64], weight: i32, numbers: &[i64])
     requires weight { IsScore weight }
     requires numbers { AreNumbersBelow numbers.now (length numbers.now) }
-    requires few { length numbers.now ≤ 4096 }
+    requires few { length numbers.now ≤ 2 ^ greatest_colours }
     requires room { length numbers.now ≡ length gains.old }
     ensures length { length gains.new ≡ length gains.old }
     ensures set { (place : ℕ) → place < length gains.old
@@ -104,7 +104,7 @@ fn set_gains(gains: &mut [i64], weight: i32, numbers: &[i64])
 fn raise_gains(gains: &mut [i64], weight: i32, numbers: &[i64])
     requires weight { IsScore weight }
     requires numbers { AreNumbersBelow numbers.now (length numbers.now) }
-    requires few { length numbers.now ≤ 4096 }
+    requires few { length numbers.now ≤ 2 ^ greatest_colours }
     requires room { length numbers.now ≡ length gains.old }
     requires gains { AreGainsBelow gains.old (length gains.old) }
     ensures length { length gains.new ≡ length gains.old }

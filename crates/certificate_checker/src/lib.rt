@@ -2,8 +2,6 @@
 #![tactic(auto)]
 
 mod bound;
-#[cfg(test)]
-mod bound_tests;
 mod checking;
 mod colours;
 mod gains;
@@ -13,8 +11,6 @@ mod parts;
 mod prices;
 mod sides;
 mod table;
-#[cfg(test)]
-mod tests;
 mod verdict;
 mod vertex;
 

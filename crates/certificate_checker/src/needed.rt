@@ -2,7 +2,7 @@
 ghost use Rattle.std.specs.Prelude.{◌≡◌, ◌≤◌, ◌<◌, ◌-◌, ◌+ℤ◌, ◌-ℤ◌, pos, length, slice_set};
 ghost use Rattle.std.specs.Int.{int_max};
 ghost use Rattle.colour_graph.specs.EdgeSet.{IsSetOf};
-ghost use Rattle.colour_graph.specs.Graph.{IsScore, colour_count};
+ghost use Rattle.colour_graph.specs.Graph.{IsScore, colour_count, greatest_graph};
 ghost use Rattle.tree_certificate.specs.PriceHolds.{FitsPrices};
 ghost use Rattle.certificate_checker.specs.inside.Enough.{IsNumber, number_in};
 ghost use Rattle.certificate_checker.specs.inside.Gained.{AreClear, AreGained, AreGainsOf, AreNeededBy, AreNeeds};
@@ -19,7 +19,7 @@ pub(crate) fn gather_needed(
     needed: &mut [i64],
     gains: &mut [i64],
 )
-    requires vertices { length graph.now.colours ≤ 512 }
+    requires vertices { length graph.now.colours ≤ greatest_graph }
     requires set { IsSetOf graph.now allowed.now }
     requires fits { FitsPrices graph.now cert.now }
     requires room { length graph.now.colours ≤ length gains.old }
@@ -95,7 +95,7 @@ fn raise(gains: &mut [i64], vertex: usize, gain: i64)
 fn add_gains(graph: &ColourGraph, colour: Colour, needed: &mut [i64], gains: &mut [i64])
     requires not_root { 0 < colour }
     requires counted { colour ≤ colour_count graph.now }
-    requires few { colour ≤ 512 }
+    requires few { colour ≤ greatest_graph }
     requires room { length graph.now.colours ≤ length gains.old }
     requires long { length needed.old ≡ length gains.old }
     requires needs { AreNeeds (colour - 1) needed.old }
@@ -117,7 +117,7 @@ fn add_gains(graph: &ColourGraph, colour: Colour, needed: &mut [i64], gains: &mu
 fn move_gain(needed: &mut [i64], gains: &mut [i64], vertex: usize)
     requires needed_room { vertex < length needed.old }
     requires gains_room { vertex < length gains.old }
-    requires needed { IsNeed 512 (number_in needed.old vertex) }
+    requires needed { IsNeed greatest_graph (number_in needed.old vertex) }
     requires gained { IsGained (number_in gains.old vertex) }
     ensures added { needed.new
         ≡ slice_set needed.old vertex (number_in needed.old vertex +ℤ number_in gains.old vertex) }

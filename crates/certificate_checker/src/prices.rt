@@ -1,9 +1,9 @@
 //! Whether prices and potentials hold, and the first place where they fail.
-ghost use Rattle.std.specs.Prelude.{◌≡◌, ◌≤◌, ◌↔◌, ◌+ℤ◌, ◌≤ℤ◌, ℤ, IsTrue, MatchOption, length};
+ghost use Rattle.std.specs.Prelude.{◌≡◌, ◌≤◌, ◌-◌, ◌↔◌, ◌+ℤ◌, ◌≤ℤ◌, ℤ, IsTrue, MatchOption, length};
 ghost use Rattle.colour_graph.specs.Bounded.{IsBounded};
 ghost use Rattle.colour_graph.specs.Colourful.{total};
 ghost use Rattle.colour_graph.specs.EdgeSet.{IsSetOf};
-ghost use Rattle.colour_graph.specs.Graph.{IsScore};
+ghost use Rattle.colour_graph.specs.Graph.{IsScore, greatest_graph};
 ghost use Rattle.tree_certificate.specs.Number.{AreNear};
 ghost use Rattle.tree_certificate.specs.PriceHolds.{AreNotNegative, FitsPrices, PriceHolds, price_total};
 ghost use Rattle.certificate_checker.specs.BoundPlaces.{IsLeafPlace, IsNegativePlace};
@@ -11,16 +11,13 @@ ghost use Rattle.certificate_checker.specs.inside.Enough.{IsNumber};
 ghost use Rattle.certificate_checker.specs.inside.Gained.{IsPriceSum};
 
 use crate::needed::gather_needed;
-use colour_graph::{Allowed, Colour, ColourGraph};
+use colour_graph::{Allowed, Colour, ColourGraph, GREATEST_GRAPH};
 use tree_certificate::{Place, PriceCert, what_prices_hold_bounds_every_tree};
 
-/// A graph has at most so many vertices here, and fewer colours.
-const GREATEST_VERTICES: usize = 512;
-
-/// Whether prices and potentials hold on a set of edges of a graph of at most 512 vertices, and what they say of it is
+/// Whether prices and potentials hold on a set of edges of a graph of at most `GREATEST_GRAPH` vertices, and what they say of it is
 /// at most an upper bound. Then no colourful list of edges of the set scores more than that.
 pub fn check_prices(graph: &ColourGraph, allowed: &Allowed, cert: &PriceCert, upper: i64) -> bool
-    requires vertices { length graph.now.colours ≤ 512 }
+    requires vertices { length graph.now.colours ≤ greatest_graph }
     requires set { IsSetOf graph.now allowed.now }
     ensures exactly { IsTrue result
         ↔ (PriceHolds graph.now allowed.now cert.now × (price_total graph.now cert.now ≤ℤ upper)) }
@@ -40,7 +37,7 @@ pub(crate) fn wrong_prices(
     upper: i64,
     node: u32,
 ) -> Option<Place>
-    requires vertices { length graph.now.colours ≤ 512 }
+    requires vertices { length graph.now.colours ≤ greatest_graph }
     requires set { IsSetOf graph.now allowed.now }
     ensures { MatchOption result
         (PriceHolds graph.now allowed.now cert.now × (price_total graph.now cert.now ≤ℤ upper))
@@ -73,7 +70,7 @@ fn fits_prices(graph: &ColourGraph, cert: &PriceCert) -> bool
 
 /// The first colour whose price is below 0.
 fn first_negative(graph: &ColourGraph, cert: &PriceCert) -> Option<Colour>
-    requires vertices { length graph.now.colours ≤ 512 }
+    requires vertices { length graph.now.colours ≤ greatest_graph }
     requires fits { FitsPrices graph.now cert.now }
     ensures { MatchOption result (AreNotNegative cert.now.prices)
         (λ colour. IsNegativePlace graph.now cert.now colour) }
@@ -95,15 +92,15 @@ fn low_potential(
     cert: &PriceCert,
     node: u32,
 ) -> Option<Place>
-    requires vertices { length graph.now.colours ≤ 512 }
+    requires vertices { length graph.now.colours ≤ greatest_graph }
     requires set { IsSetOf graph.now allowed.now }
     requires fits { FitsPrices graph.now cert.now }
     requires prices { AreNotNegative cert.now.prices }
     ensures { MatchOption result (PriceHolds graph.now allowed.now cert.now)
         (λ place. (upper : ℤ) → IsLeafPlace graph.now allowed.now cert.now upper node place) }
 {
-    let mut needed = [0i64; GREATEST_VERTICES];
-    let mut gains = [0i64; GREATEST_VERTICES];
+    let mut needed = [0i64; GREATEST_GRAPH as usize];
+    let mut gains = [0i64; GREATEST_GRAPH as usize];
     gather_needed(graph, allowed, cert, &mut needed, &mut gains);
     let potentials = cert.potentials();
     for vertex in 0..graph.vertex_count() {
@@ -118,7 +115,7 @@ fn low_potential(
 
 /// What prices and potentials say of the whole graph.
 pub fn total_of(graph: &ColourGraph, cert: &PriceCert) -> i64
-    requires vertices { length graph.now.colours ≤ 512 }
+    requires vertices { length graph.now.colours ≤ greatest_graph }
     requires fits { FitsPrices graph.now cert.now }
     requires prices { AreNotNegative cert.now.prices }
     ensures { result ≡ price_total graph.now cert.now }
@@ -136,7 +133,7 @@ pub fn total_of(graph: &ColourGraph, cert: &PriceCert) -> i64
 fn added(score: i32, potential: i64, prices: i64) -> i64
     requires score { IsScore score }
     requires potential { IsNumber potential }
-    requires prices { IsPriceSum 512 prices }
+    requires prices { IsPriceSum greatest_graph prices }
     ensures { result ≡ score +ℤ (potential +ℤ prices) }
 {
     i64::from(score) + (potential + prices)
@@ -144,11 +141,11 @@ fn added(score: i32, potential: i64, prices: i64) -> i64
 
 /// The sum of prices, none of which is below 0.
 fn sum_of(prices: &[i64]) -> i64
-    requires few { length prices.now ≤ 512 }
+    requires few { length prices.now ≤ greatest_graph }
     requires near { AreNear prices.now }
     requires not_negative { AreNotNegative prices.now }
     ensures total { result ≡ total prices.now }
-    ensures near { IsPriceSum 512 result }
+    ensures near { IsPriceSum greatest_graph result }
 {
     let mut sum = 0;
     for price in prices {
@@ -160,7 +157,7 @@ fn sum_of(prices: &[i64]) -> i64
 /// The sum of some prices and one more.
 #[inline(always)]
 fn with_price(sum: i64, price: i64) -> i64
-    requires sum { IsPriceSum 511 sum }
+    requires sum { IsPriceSum (greatest_graph - 1) sum }
     requires price { IsPriceSum 1 price }
     ensures { result ≡ sum +ℤ price }
 {

@@ -1,6 +1,6 @@
 //! Whether a table holds, and the first place where it fails.
 ghost use Rattle.std.specs.Prelude.{◌≡◌, ◌≤◌, ◌<◌, ◌↔◌, ℤ, IfOk, MatchOption, IsTrue, length, map};
-ghost use Rattle.colour_graph.specs.Graph.{IsGraph, colour_count};
+ghost use Rattle.colour_graph.specs.Graph.{IsGraph, colour_count, greatest_graph};
 ghost use Rattle.tree_certificate.specs.Number.{AreNumbers};
 ghost use Rattle.tree_certificate.specs.TableHolds.{FitsGraph, HasRow, greatest_colours, number_at, table_total};
 ghost use Rattle.tree_certificate.specs.Value.{a_table};
@@ -22,7 +22,7 @@ pub(crate) fn check_table(
     rows: &[Vec<i64>],
     upper: i64,
 ) -> Result<Verdict, AllocError>
-    requires vertices { length graph.now.colours ≤ 512 }
+    requires vertices { length graph.now.colours ≤ greatest_graph }
     requires graph { IsGraph graph.now }
     requires numbers { AreNumbers (map (λ row. row.items) rows.now) }
     ensures { IfOk result
@@ -48,7 +48,7 @@ pub(crate) fn check_table(
 
 /// The first vertex whose row is missing or has another length; the number of vertices where there are too many rows.
 fn first_misfit(graph: &ColourGraph, rows: &[Vec<i64>]) -> Option<u32>
-    requires vertices { length graph.now.colours ≤ 512 }
+    requires vertices { length graph.now.colours ≤ greatest_graph }
     requires few { colour_count graph.now ≤ greatest_colours }
     ensures { MatchOption result (FitsGraph graph.now (map (λ row. row.items) rows.now))
         (λ vertex. IsShapePlace graph.now (map (λ row. row.items) rows.now) vertex) }
@@ -84,7 +84,7 @@ fn first_low(
     graph: &ColourGraph,
     rows: &[Vec<i64>],
 ) -> Result<Option<Place>, AllocError>
-    requires vertices { length graph.now.colours ≤ 512 }
+    requires vertices { length graph.now.colours ≤ greatest_graph }
     requires fits { FitsGraph graph.now (map (λ row. row.items) rows.now) }
     requires numbers { AreNumbers (map (λ row. row.items) rows.now) }
     ensures { IfOk result (λ found. MatchOption found (AreHigh graph.now (map (λ row. row.items) rows.now))

@@ -84,9 +84,9 @@ fn first_low_of_size(
 
 /// How many sets of so many colours there are.
 pub(crate) fn sets_of(size: usize) -> usize
-    requires { size ≤ 12 }
+    requires { size ≤ greatest_colours }
     ensures sets { result ≡ 2 ^ size }
-    ensures few { result ≤ 4096 }
+    ensures few { result ≤ 2 ^ greatest_colours }
 {
     1 << size
 }
@@ -98,7 +98,7 @@ fn step_of(graph: &ColourGraph, vertex: VertexId, size: usize) -> usize
     requires size { colour_of graph.now vertex + size < colour_count graph.now }
     ensures step { result ≡ 2 ^ (colour_count graph.now - size - colour_of graph.now vertex - 1) }
     ensures some { 0 < result }
-    ensures few { 2 * result ≤ 4096 }
+    ensures few { 2 * result ≤ 2 ^ greatest_colours }
 {
     1 << (graph.colour_count() as usize - size - usize::from(graph.colour_of(vertex)) - 1)
 }
@@ -107,8 +107,8 @@ fn step_of(graph: &ColourGraph, vertex: VertexId, size: usize) -> usize
 /// in registers where it stands alone.
 #[inline(never)]
 fn first_low_set(row: &[i64], step: usize, own: &[i64], gains: &[i64], any: bool) -> Option<Low>
-    requires few { length row.now ≤ 4096 }
-    requires step { (0 < step) × (step ≤ 4096) }
+    requires few { length row.now ≤ 2 ^ greatest_colours }
+    requires step { (0 < step) × (step ≤ 2 ^ greatest_colours) }
     requires row { length own.now * (2 * step) ≡ length row.now }
     requires held { AreNumbersBelow row.now (length row.now) }
     requires room { length own.now ≡ length gains.now }
@@ -140,8 +140,8 @@ fn first_low_set(row: &[i64], step: usize, own: &[i64], gains: &[i64], any: bool
 /// the one for the set without the colour.
 #[inline(never)]
 fn first_below(row: &[i64], step: usize, own: &[i64]) -> Option<Low>
-    requires few { length row.now ≤ 4096 }
-    requires step { (0 < step) × (step ≤ 4096) }
+    requires few { length row.now ≤ 2 ^ greatest_colours }
+    requires step { (0 < step) × (step ≤ 2 ^ greatest_colours) }
     requires row { length own.now * (2 * step) ≡ length row.now }
     requires held { AreNumbersBelow row.now (length row.now) }
     requires numbers { AreNumbersBelow own.now (length own.now) }

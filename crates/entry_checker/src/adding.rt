@@ -1,21 +1,21 @@
 //! Which edges could be added to a tree with gain.
 ghost use Rattle.std.specs.Prelude.{◌≡◌, ◌≤◌, ◌<◌, ◌↔◌, ◌<ℤ◌, pos, false, true, IsTrue, MatchOption, length, replicate};
 ghost use Rattle.std.specs.List.{All};
+ghost use Rattle.colour_graph.specs.Graph.{greatest_graph};
 ghost use Rattle.colour_graph.specs.Maximal.{IsMaximal};
 ghost use Rattle.entry_checker.specs.EntryPlaces.{IsAddedPlace};
 ghost use Rattle.entry_checker.specs.inside.Marks.{AreMarks, is_marked};
 
-use crate::entry::GREATEST_VERTICES;
-use colour_graph::{Colour, ColourGraph, Edge, EdgeId};
+use colour_graph::{Colour, ColourGraph, Edge, EdgeId, GREATEST_GRAPH};
 
 /// The least edge that could be added to a list of edges with gain, by one pass over the graph.
 pub(crate) fn first_added(graph: &ColourGraph, edges: &[EdgeId]) -> Option<EdgeId>
-    requires vertices { length graph.now.colours ≤ 512 }
+    requires vertices { length graph.now.colours ≤ greatest_graph }
     requires in_range { All (λ edge. edge < length graph.now.edges) edges.now }
     ensures { MatchOption result (IsMaximal graph.now edges.now) (λ edge. IsAddedPlace graph.now edges.now edge) }
 {
-    let mut reached = [false; GREATEST_VERTICES];
-    let mut taken = [false; GREATEST_VERTICES];
+    let mut reached = [false; GREATEST_GRAPH as usize];
+    let mut taken = [false; GREATEST_GRAPH as usize];
     mark_heads(graph, edges, &mut reached, &mut taken);
     for place in 0..graph.edge_count() {
         let edge = graph.edge_at(place);

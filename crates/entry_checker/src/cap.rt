@@ -3,14 +3,14 @@ ghost use Rattle.std.specs.Prelude.{◌≡◌, ◌≤◌, ◌<◌, IfOk, length}
 ghost use Rattle.colour_graph.specs.Cap.{cap_of, greatest};
 ghost use Rattle.colour_graph.specs.Colourful.{weights_of};
 ghost use Rattle.colour_graph.specs.EdgeSet.{IsSetOf, all_edges, edges_into};
-ghost use Rattle.colour_graph.specs.Graph.{IsScore, colour_count};
+ghost use Rattle.colour_graph.specs.Graph.{IsScore, colour_count, greatest_graph};
 
 use colour_graph::{Allowed, Colour, ColourGraph};
 use std::alloc::{AllocError, Global};
 
 /// The cap of all edges of a graph.
 pub(crate) fn cap(alloc: Global, graph: &ColourGraph) -> Result<i64, AllocError>
-    requires vertices { length graph.now.colours ≤ 512 }
+    requires vertices { length graph.now.colours ≤ greatest_graph }
     ensures { IfOk result (λ cap. cap ≡ cap_of graph.now (all_edges graph.now)) }
 {
     let all = Allowed::all(alloc, graph)?;
@@ -19,7 +19,7 @@ pub(crate) fn cap(alloc: Global, graph: &ColourGraph) -> Result<i64, AllocError>
 
 /// The cap of a set of edges of a graph.
 pub(crate) fn cap_in(graph: &ColourGraph, allowed: &Allowed) -> i64
-    requires vertices { length graph.now.colours ≤ 512 }
+    requires vertices { length graph.now.colours ≤ greatest_graph }
     requires set { IsSetOf graph.now allowed.now }
     ensures { result ≡ cap_of graph.now allowed.now }
 {

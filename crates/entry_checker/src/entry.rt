@@ -2,6 +2,7 @@
 ghost use Rattle.std.specs.Prelude.{◌≡◌, ◌≤◌, ◌<◌, ◌^◌, ◌↔◌, ℕ, Ok, IfOk, IsTrue, MatchOption, length};
 ghost use Rattle.colour_graph.specs.Bounded.{IsBounded};
 ghost use Rattle.colour_graph.specs.EdgeSet.{all_edges};
+ghost use Rattle.colour_graph.specs.Graph.{greatest_graph};
 ghost use Rattle.tree_entry.specs.EntryIsRight.{EntryIsRight, MarkFits};
 ghost use Rattle.tree_certificate.specs.CertHolds.{cert_depth, cert_splits};
 ghost use Rattle.tree_document.specs.declared.entry.Mark.TheVariants as mark;
@@ -9,6 +10,7 @@ ghost use Rattle.entry_checker.specs.EntryPlaces.{CertIsRight, IsEntryPlace, IsE
 ghost use Rattle.entry_checker.specs.EntryPlaces.{NoneIsAdded};
 ghost use Rattle.tree_entry.specs.Rows.{AreRows, edges_of};
 ghost use Rattle.entry_checker.specs.declared.verdict.EntryVerdict.TheVariants.{Right};
+ghost use Rattle.tree_certificate.specs.BoundHolds.{greatest_depth};
 
 use crate::adding::first_added;
 use crate::cap::cap;
@@ -23,10 +25,7 @@ use tree_certificate::{Cert, GREATEST_COLOURS, what_holds_bounds_every_tree};
 use tree_document::{Mark, Tree, TreeRow};
 use tree_entry::EntryPlace;
 
-/// A graph has at most so many vertices here, and fewer colours.
-pub(crate) const GREATEST_VERTICES: usize = 512;
-
-/// Whether a tree is right for the graph of its candidate, of at most 512 vertices, under a budget of splits, or the first
+/// Whether a tree is right for the graph of its candidate, of at most `GREATEST_GRAPH` vertices, under a budget of splits, or the first
 /// place where it is not. The upper bound of one that is right bounds every tree of the graph.
 pub fn check_entry(
     alloc: Global,
@@ -34,8 +33,8 @@ pub fn check_entry(
     tree: &Tree,
     budget: u32,
 ) -> Result<EntryVerdict, AllocError>
-    requires vertices { length built.now.graph.colours ≤ 512 }
-    requires depth { cert_depth tree.now.cert ≤ 1024 }
+    requires vertices { length built.now.graph.colours ≤ greatest_graph }
+    requires depth { cert_depth tree.now.cert ≤ greatest_depth }
     requires few { cert_splits tree.now.cert < 2 ^ 31 }
     ensures verdict { IfOk result (λ verdict. IsEntryVerdict built.now tree.now budget verdict) }
     ensures exactly { IfOk result (λ verdict. (verdict ≡ Right) ↔ EntryIsRight built.now tree.now budget) }
@@ -65,7 +64,7 @@ fn edges_in(alloc: Global, rows: &[TreeRow]) -> Result<Vec<EdgeId>, AllocError>
 
 /// Where the edges of right rows are not colourful, or one could be added with gain.
 fn wrong_edges(built: &LossGraph, tree: &Tree, edges: &[EdgeId]) -> Option<EntryPlace>
-    requires vertices { length built.now.graph.colours ≤ 512 }
+    requires vertices { length built.now.graph.colours ≤ greatest_graph }
     requires rows { AreRows built.now tree.now.rows }
     requires edges { edges.now ≡ edges_of tree.now.rows }
     ensures { MatchOption result (NoneIsAdded built.now tree.now)
@@ -85,7 +84,7 @@ fn wrong_number(
     tree: &Tree,
     edges: &[EdgeId],
 ) -> Result<Option<EntryPlace>, AllocError>
-    requires vertices { length built.now.graph.colours ≤ 512 }
+    requires vertices { length built.now.graph.colours ≤ greatest_graph }
     requires before { NoneIsAdded built.now tree.now }
     requires edges { edges.now ≡ edges_of tree.now.rows }
     ensures { IfOk result (λ wrong. MatchOption wrong (MarkIsFitting built.now tree.now)
@@ -123,8 +122,8 @@ fn check_last(
     tree: &Tree,
     budget: u32,
 ) -> Result<EntryVerdict, AllocError>
-    requires vertices { length built.now.graph.colours ≤ 512 }
-    requires depth { cert_depth tree.now.cert ≤ 1024 }
+    requires vertices { length built.now.graph.colours ≤ greatest_graph }
+    requires depth { cert_depth tree.now.cert ≤ greatest_depth }
     requires few { cert_splits tree.now.cert < 2 ^ 31 }
     requires before { MarkIsFitting built.now tree.now }
     ensures { IfOk result (λ verdict. IsEntryVerdict built.now tree.now budget verdict) }
@@ -145,8 +144,8 @@ fn check_gap(
     tree: &Tree,
     budget: u32,
 ) -> Result<EntryVerdict, AllocError>
-    requires vertices { length built.now.graph.colours ≤ 512 }
-    requires depth { cert_depth tree.now.cert ≤ 1024 }
+    requires vertices { length built.now.graph.colours ≤ greatest_graph }
+    requires depth { cert_depth tree.now.cert ≤ greatest_depth }
     requires few { cert_splits tree.now.cert < 2 ^ 31 }
     requires before { CertIsRight built.now tree.now }
     requires gap { tree.now.mark ≡ mark.Gap }

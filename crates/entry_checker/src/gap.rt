@@ -3,8 +3,9 @@
 ghost use Rattle.std.specs.Prelude.{◌≡◌, ◌≤◌, ◌<◌, ◌+◌, ◌++◌, ◌∷◌, ◌^◌, ◌↔◌, ◌<ℤ◌, ℕ, ℤ, Bool, List, [], length};
 ghost use Rattle.std.specs.Prelude.{IfOk, IsTrue, MatchOption, OnOk};
 ghost use Rattle.colour_graph.specs.EdgeSet.{IsSetOf, all_edges};
-ghost use Rattle.colour_graph.specs.Graph.{Graph};
+ghost use Rattle.colour_graph.specs.Graph.{Graph, greatest_graph};
 ghost use Rattle.tree_certificate.specs.BoundHolds.{BoundHolds, IsDecided, depth_of, nodes_of, splits_of};
+ghost use Rattle.tree_certificate.specs.BoundHolds.{greatest_depth};
 ghost use Rattle.tree_certificate.specs.BoundValue.{BoundValue};
 ghost use Rattle.tree_certificate.specs.BoundView.{bound_value};
 ghost use Rattle.tree_certificate.specs.PriceHolds.{PriceHolds};
@@ -48,8 +49,8 @@ pub(crate) fn wrong_gap(
     upper: i64,
     budget: u32,
 ) -> Result<Option<EntryPlace>, AllocError>
-    requires vertices { length graph.now.colours ≤ 512 }
-    requires depth { depth_of (bound_value bound.now) ≤ 1024 }
+    requires vertices { length graph.now.colours ≤ greatest_graph }
+    requires depth { depth_of (bound_value bound.now) ≤ greatest_depth }
     requires few { splits_of (bound_value bound.now) < 2 ^ 31 }
     requires holds { BoundHolds graph.now (all_edges graph.now) (bound_value bound.now) upper }
     ensures { IfOk result (λ found. MatchOption found (Spent graph.now (bound_value bound.now) score upper budget)
@@ -110,8 +111,8 @@ fn first_place(found: &Found) -> Option<EntryPlace>
 
 /// The greatest total of the leaves of a bound.
 fn greatest_total(graph: &ColourGraph, bound: &Bound) -> i64
-    requires vertices { length graph.now.colours ≤ 512 }
-    requires depth { depth_of (bound_value bound.now) ≤ 1024 }
+    requires vertices { length graph.now.colours ≤ greatest_graph }
+    requires depth { depth_of (bound_value bound.now) ≤ greatest_depth }
     requires totals { HasTotals graph.now (bound_value bound.now) }
     ensures { (allowed : List Bool) → (node : ℕ)
         → IsGreatestTotal graph.now (leaves_of graph.now allowed (bound_value bound.now) node) result }
@@ -134,8 +135,8 @@ fn look_at(
     taken: &mut Vec<EdgeId>,
     found: &mut Found,
 ) -> Result<(), AllocError>
-    requires vertices { length graph.now.colours ≤ 512 }
-    requires depth { depth_of (bound_value bound.now) ≤ 1024 }
+    requires vertices { length graph.now.colours ≤ greatest_graph }
+    requires depth { depth_of (bound_value bound.now) ≤ greatest_depth }
     requires few { found.old.next + nodes_of (bound_value bound.now) < 2 ^ 32 }
     requires set { IsSetOf graph.now allowed.old }
     requires holds { BoundHolds graph.now allowed.old (bound_value bound.now) gap.upper }
@@ -176,7 +177,7 @@ fn look_at_leaf(
     gap: Gap,
     found: &mut Found,
 )
-    requires vertices { length graph.now.colours ≤ 512 }
+    requires vertices { length graph.now.colours ≤ greatest_graph }
     requires set { IsSetOf graph.now allowed.now }
     requires holds { PriceHolds graph.now allowed.now cert.now }
     requires few { found.old.next + 1 < 2 ^ 32 }
@@ -197,7 +198,7 @@ fn look_at_leaf(
 
 /// Looks at the next node, which is a split of a set of edges.
 fn look_at_split(graph: &ColourGraph, allowed: &Allowed, gap: Gap, found: &mut Found)
-    requires vertices { length graph.now.colours ≤ 512 }
+    requires vertices { length graph.now.colours ≤ greatest_graph }
     requires set { IsSetOf graph.now allowed.now }
     requires few { found.old.next + 1 < 2 ^ 32 }
     ensures next { found.new.next ≡ found.old.next + 1 }
@@ -225,7 +226,7 @@ fn first_with(first: Option<u32>, holds: bool, node: u32) -> Option<u32>
 
 /// Whether a leaf of this total, if that is more than a score, can be split.
 fn can_go_on(graph: &ColourGraph, allowed: &Allowed, total: i64, score: i64) -> bool
-    requires vertices { length graph.now.colours ≤ 512 }
+    requires vertices { length graph.now.colours ≤ greatest_graph }
     requires set { IsSetOf graph.now allowed.now }
     ensures { IsTrue result ↔ (score <ℤ total → ¬ IsDecided graph.now allowed.now) }
 {
@@ -234,7 +235,7 @@ fn can_go_on(graph: &ColourGraph, allowed: &Allowed, total: i64, score: i64) -> 
 
 /// Whether a set has at most one edge into each colour, so that nothing of it can be split.
 fn is_decided(graph: &ColourGraph, allowed: &Allowed) -> bool
-    requires vertices { length graph.now.colours ≤ 512 }
+    requires vertices { length graph.now.colours ≤ greatest_graph }
     requires set { IsSetOf graph.now allowed.now }
     ensures { IsTrue result ↔ IsDecided graph.now allowed.now }
 {

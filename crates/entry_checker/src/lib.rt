@@ -5,11 +5,7 @@
 mod adding;
 mod cap;
 mod entry;
-#[cfg(test)]
-mod entry_tests;
 mod gap;
-#[cfg(test)]
-mod gap_tests;
 mod rows;
 mod verdict;
 

@@ -1,22 +1,22 @@
 //! Whether the rows of a tree are those of its graph.
 ghost use Rattle.std.specs.Prelude.{◌≡◌, ◌≤◌, ◌<◌, ◌+◌, ◌-◌, ◌↔◌, IsTrue, MatchOption, length};
+ghost use Rattle.colour_graph.specs.Graph.{greatest_graph};
 ghost use Rattle.entry_checker.specs.EntryPlaces.{IsRowsPlace};
 ghost use Rattle.tree_entry.specs.Rows.{AreRows, IsRow, row_at};
 ghost use Rattle.entry_checker.specs.inside.Firsts.{AreFirsts, IsParentBy, TellsEdge};
 
-use crate::entry::GREATEST_VERTICES;
-use colour_graph::{ColourGraph, VertexId};
+use colour_graph::{ColourGraph, GREATEST_GRAPH, VertexId};
 use loss_graph::LossGraph;
 use tree_document::TreeRow;
 
 /// The number, from 1, of the first row that is not the graph's. One pass keeps the first row of each vertex, so that
 /// parents are not searched for.
 pub(crate) fn first_wrong_row(built: &LossGraph, rows: &[TreeRow]) -> Option<u32>
-    requires vertices { length built.now.graph.colours ≤ 512 }
+    requires vertices { length built.now.graph.colours ≤ greatest_graph }
     ensures { MatchOption result (AreRows built.now rows.now) (λ number. IsRowsPlace built.now rows.now number) }
 {
     let _count = built.graph.edge_count();
-    let mut firsts = [0u32; GREATEST_VERTICES];
+    let mut firsts = [0u32; GREATEST_GRAPH as usize];
     for place in 0..rows.len() {
         if !is_row(built, rows, place, &firsts) {
             return Some(place as u32 + 1);

@@ -3,46 +3,23 @@
 
 ghost use Rattle.std.specs.Prelude.{◌≡◌, ◌↔◌, false, Some, None};
 ghost use Rattle.frag_io.specs.declared.desk.Slot.{Slot};
-ghost use Rattle.order_words.specs.Orders.{DocumentNames, ListNames, Order, begins_of, check, list, order_of, profile_named, solve};
+ghost use Rattle.order_words.specs.Orders.{DocumentNames, ListNames, Order, check, list, order_of, profile_named, solve};
 ghost use Rattle.order_words.specs.Words.{texts_of};
 ghost use Rattle.run_plan.specs.Causes.{Causes};
-ghost use Rattle.run_plan.specs.Steps.{Steps};
 ghost use Rattle.run_plan.specs.ProfilePromise.{ProfilePromise};
+ghost use Rattle.run_plan.specs.Steps.{Steps};
 ghost use Rattle.check_command.specs.CheckPromise.{CheckPromise};
 ghost use Rattle.list_command.specs.ListPromise.{ListPromise};
 ghost use Rattle.solve_command.specs.SolvePromise.{SolvePromise};
-
-mod candidates;
-mod check;
-#[cfg(test)]
-mod check_tests;
-mod ending;
-mod laws;
-mod list;
-mod orders;
-mod outline;
-mod profile_text;
-mod reading;
-mod reject;
-mod settings;
-mod solve;
-#[cfg(test)]
-mod solve_tests;
-mod status;
-mod steps;
-#[cfg(test)]
-mod tests;
-mod text_steps;
-mod words;
+ghost use Rattle.fragment_run.specs.PlanOf.{plan_of};
 
 use frag_io::Desk;
-pub use laws::{
-    a_rejected_document_is_not_right, a_spectrum_has_one_outline, what_is_accepted_is_nothing_else,
-};
-pub use reject::{RejectPart, RejectPlace};
-pub use status::{Status, fault_text};
+use order_words::{Order, read_order};
 use std::alloc::Global;
-pub use steps::{GREATEST_DOCUMENT, GREATEST_TEXT};
+
+pub use check_command::{a_rejected_document_is_not_right, what_is_accepted_is_nothing_else};
+pub use right_document::a_spectrum_has_one_outline;
+pub use run_plan::{GREATEST_DOCUMENT, GREATEST_TEXT, RejectPart, RejectPlace, Status, fault_text};
 
 /// Runs the order that the words give over a desk of which no slot was begun, and says how it ended.
 pub fn run<D: Desk>(alloc: Global, words: &[String], desk: &mut D) -> Status
@@ -55,7 +32,7 @@ pub fn run<D: Desk>(alloc: Global, words: &[String], desk: &mut D) -> Status
 
     // Each order is carried out in the same way.
     ensures steps { (order : Order) → order_of (texts_of words.now) ≡ Some order
-        → Steps (begins_of order) (D.state desk.old) (D.state desk.new) result }
+        → Steps (plan_of order) (D.state desk.old) (D.state desk.new) result }
     ensures profile { (order : Order) → order_of (texts_of words.now) ≡ Some order
         → ProfilePromise (profile_named order) (D.state desk.old) (D.state desk.new) result }
 
@@ -67,10 +44,10 @@ pub fn run<D: Desk>(alloc: Global, words: &[String], desk: &mut D) -> Status
     ensures check { (names : DocumentNames) → order_of (texts_of words.now) ≡ Some (check names)
         → CheckPromise names (D.state desk.old) (D.state desk.new) result }
 {
-    match orders::read_order(words) {
-        Some(orders::Order::List(names)) => list::list(alloc, &names, desk),
-        Some(orders::Order::Solve(names)) => solve::solve(alloc, &names, desk),
-        Some(orders::Order::Check(names)) => check::check(alloc, &names, desk),
+    match read_order(words) {
+        Some(Order::List(names)) => list_command::list(alloc, &names, desk),
+        Some(Order::Solve(names)) => solve_command::solve(alloc, &names, desk),
+        Some(Order::Check(names)) => check_command::check(alloc, &names, desk),
         None => Status::Words,
     }
 }

@@ -2,12 +2,13 @@
 ghost use Rattle.std.specs.Prelude.{◌≡◌, ◌≤◌, ◌≤ℤ◌, IfOk, length};
 ghost use Rattle.colour_graph.specs.Cap.{cap_of};
 ghost use Rattle.colour_graph.specs.EdgeSet.{IsSetOf};
+ghost use Rattle.colour_graph.specs.Graph.{greatest_graph};
 ghost use Rattle.price_bound.specs.inside.Kept.{AreOffers};
 ghost use Rattle.price_bound.specs.inside.Packed.{IsPacked};
 ghost use Rattle.tree_certificate.specs.PriceHolds.{PriceHolds, price_total};
 
 use crate::offers::Offers;
-use crate::packed::{GREATEST_PRICE, GREATEST_VERTICES, Numbers, ONE, Packed};
+use crate::packed::{GREATEST_PRICE, Numbers, ONE, Packed, ROOM};
 use crate::rounds::best_prices;
 use colour_graph::{Allowed, ColourGraph};
 use std::alloc::{AllocError, Global};
@@ -16,7 +17,7 @@ use tree_certificate::PriceCert;
 /// How often all prices are tried one higher or lower.
 const PASSES: u32 = 4;
 
-/// Prices and potentials, in units of scores, that hold on a set of edges of a graph of at most 512 vertices and say no
+/// Prices and potentials, in units of scores, that hold on a set of edges of a graph of at most `GREATEST_GRAPH` vertices and say no
 /// more of the whole graph than the cap of the set. They are found by a subgradient walk over prices, as for Lagrangian
 /// relaxations (Held and Karp 1971), and are not always the best ones. The error is want of memory.
 pub fn improve(
@@ -24,7 +25,7 @@ pub fn improve(
     graph: &ColourGraph,
     allowed: &Allowed,
 ) -> Result<PriceCert, AllocError>
-    requires vertices { length graph.now.colours ≤ 512 }
+    requires vertices { length graph.now.colours ≤ greatest_graph }
     requires set { IsSetOf graph.now allowed.now }
     ensures holds { IfOk result (λ cert. PriceHolds graph.now allowed.now cert) }
     ensures capped { IfOk result (λ cert. price_total graph.now cert ≤ℤ cap_of graph.now allowed.now) }
@@ -50,7 +51,7 @@ pub fn improve(
 
 /// Tries each price one higher where its colour is used more than once, and one lower where it is not used.
 fn try_neighbours(graph: &ColourGraph, allowed: &Allowed, packed: &Packed, offers: &mut Offers)
-    requires vertices { length graph.now.colours ≤ 512 }
+    requires vertices { length graph.now.colours ≤ greatest_graph }
     requires set { IsSetOf graph.now allowed.now }
     requires packed { IsPacked packed.now }
     requires offers { AreOffers graph.now allowed.now offers.old }
@@ -72,9 +73,9 @@ fn try_neighbours(graph: &ColourGraph, allowed: &Allowed, packed: &Packed, offer
 
 /// Prices scaled.
 fn scaled(prices: &[i64]) -> Numbers
-    requires { length prices.now ≤ 512 }
+    requires { length prices.now ≤ greatest_graph }
 {
-    let mut scaled = [0; GREATEST_VERTICES];
+    let mut scaled = [0; ROOM];
     for colour in 0..prices.len() {
         scaled[colour] = prices[colour].clamp(0, GREATEST_PRICE) * ONE;
     }

@@ -7,8 +7,6 @@ mod offers;
 mod packed;
 mod rounds;
 mod starting;
-#[cfg(test)]
-mod tests;
 mod total;
 mod unpriced;
 

@@ -1,7 +1,7 @@
 //! The best certificate so far, and others that are tried in its place.
 ghost use Rattle.std.specs.Prelude.{◌≤◌, ◌<◌, IfOk, length};
 ghost use Rattle.colour_graph.specs.EdgeSet.{IsSetOf};
-ghost use Rattle.colour_graph.specs.Graph.{colour_count};
+ghost use Rattle.colour_graph.specs.Graph.{colour_count, greatest_graph};
 ghost use Rattle.price_bound.specs.inside.Exact.{AreAmounts, IsAmount};
 ghost use Rattle.price_bound.specs.inside.Kept.{AreOffers};
 
@@ -55,7 +55,7 @@ impl Offers {
 
     /// Tries scaled prices, to the nearest whole numbers.
     pub fn offer_scaled(&mut self, graph: &ColourGraph, allowed: &Allowed, scaled: &Numbers)
-        requires vertices { length graph.now.colours ≤ 512 }
+        requires vertices { length graph.now.colours ≤ greatest_graph }
         requires set { IsSetOf graph.now allowed.now }
         requires offers { AreOffers graph.now allowed.now self.old }
         ensures offers { AreOffers graph.now allowed.now self.new }
@@ -101,7 +101,7 @@ impl Offers {
 
 /// Writes scaled prices to the nearest whole numbers.
 fn round(prices: &mut [i64], scaled: &Numbers)
-    requires { length prices.old ≤ 512 }
+    requires { length prices.old ≤ greatest_graph }
     ensures { AreAmounts prices.new }
 {
     for colour in 0..prices.len() {

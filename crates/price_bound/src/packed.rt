@@ -3,16 +3,17 @@
 ghost use Rattle.std.specs.Prelude.{◌≤◌, ◌<◌, ◌^◌, IfOk, length};
 ghost use Rattle.std.specs.List.{All};
 ghost use Rattle.colour_graph.specs.EdgeSet.{IsSetOf};
+ghost use Rattle.colour_graph.specs.Graph.{greatest_graph};
 ghost use Rattle.price_bound.specs.inside.Packed.{AreHeld, IsGroup, IsPacked, IsScaled};
 
-use colour_graph::{Allowed, ColourGraph, VertexId};
+use colour_graph::{Allowed, ColourGraph, GREATEST_GRAPH, VertexId};
 use std::alloc::{AllocError, Global};
 
 /// There are at most so many vertices, and fewer colours.
-pub(crate) const GREATEST_VERTICES: usize = 512;
+pub(crate) const ROOM: usize = GREATEST_GRAPH as usize;
 
 /// A number for each vertex or for each colour.
-pub(crate) type Numbers = [i64; GREATEST_VERTICES];
+pub(crate) type Numbers = [i64; ROOM];
 
 /// Weights, prices and potentials are kept in parts of so many to one.
 pub(crate) const ONE: i64 = 64;
@@ -53,7 +54,7 @@ pub(crate) struct Packed {
 impl Packed {
     /// The edges of a set of a graph.
     pub fn new(alloc: Global, graph: &ColourGraph, allowed: &Allowed) -> Result<Packed, AllocError>
-        requires vertices { length graph.now.colours ≤ 512 }
+        requires vertices { length graph.now.colours ≤ greatest_graph }
         requires set { IsSetOf graph.now allowed.now }
         ensures packed { IfOk result (λ packed. IsPacked packed) }
     {
@@ -67,7 +68,7 @@ impl Packed {
         requires packed { IsPacked self.now }
         ensures held { AreHeld result }
     {
-        let mut potentials = [0; GREATEST_VERTICES];
+        let mut potentials = [0; ROOM];
         let mut place = self.groups.len();
         while place > 0 {
             place -= 1;
@@ -85,12 +86,12 @@ impl Packed {
     }
 
     /// How often each colour is used where the greatest choices are followed from the root.
-    pub fn uses(&self, prices: &Numbers, potentials: &Numbers) -> [u32; GREATEST_VERTICES]
+    pub fn uses(&self, prices: &Numbers, potentials: &Numbers) -> [u32; ROOM]
         requires packed { IsPacked self.now }
         requires held { AreHeld potentials.now }
     {
-        let mut uses = [0u32; GREATEST_VERTICES];
-        let mut times = [0u32; GREATEST_VERTICES];
+        let mut uses = [0u32; ROOM];
+        let mut times = [0u32; ROOM];
         times[0] = 1;
         for group in &self.groups {
             let more = times[usize::from(group.tail)];
@@ -112,7 +113,7 @@ impl Packed {
         requires packed { IsPacked self.now }
         requires group { IsGroup (length self.now.edges.items) group }
         requires held { AreHeld potentials.now }
-        ensures head { result.1 < 512 }
+        ensures head { result.1 < greatest_graph }
     {
         let mut most = NOTHING;
         let mut best = 0;
@@ -133,7 +134,7 @@ fn edges_by_tail(
     graph: &ColourGraph,
     allowed: &Allowed,
 ) -> Result<Vec<Scaled>, AllocError>
-    requires vertices { length graph.now.colours ≤ 512 }
+    requires vertices { length graph.now.colours ≤ greatest_graph }
     requires set { IsSetOf graph.now allowed.now }
     ensures edges { IfOk result (λ edges. All (IsScaled (length graph.now.colours)) edges.items) }
     ensures few { IfOk result (λ edges. length edges.items < 2 ^ 32) }
@@ -167,11 +168,11 @@ fn edges_by_tail(
 }
 
 /// How many edges of a set go from each vertex.
-fn edges_from(graph: &ColourGraph, allowed: &Allowed) -> [u32; GREATEST_VERTICES]
-    requires vertices { length graph.now.colours ≤ 512 }
+fn edges_from(graph: &ColourGraph, allowed: &Allowed) -> [u32; ROOM]
+    requires vertices { length graph.now.colours ≤ greatest_graph }
     requires set { IsSetOf graph.now allowed.now }
 {
-    let mut counts = [0u32; GREATEST_VERTICES];
+    let mut counts = [0u32; ROOM];
     for place in 0..graph.edge_count() {
         if allowed.has(place) {
             let tail = usize::from(graph.edge_at(place).tail);
@@ -182,7 +183,7 @@ fn edges_from(graph: &ColourGraph, allowed: &Allowed) -> [u32; GREATEST_VERTICES
 }
 
 /// Adds to each number those before it, and tells their sum.
-fn add_up(counts: &mut [u32; GREATEST_VERTICES]) -> u32 {
+fn add_up(counts: &mut [u32; ROOM]) -> u32 {
     let mut sum = 0u32;
     for count in counts.iter_mut() {
         sum = sum.saturating_add(*count);
@@ -193,7 +194,7 @@ fn add_up(counts: &mut [u32; GREATEST_VERTICES]) -> u32 {
 
 /// The groups of edges that stand by tail and head. The first may be empty.
 fn groups_of(alloc: Global, graph: &ColourGraph, edges: &[Scaled]) -> Result<Vec<Group>, AllocError>
-    requires vertices { length graph.now.colours ≤ 512 }
+    requires vertices { length graph.now.colours ≤ greatest_graph }
     requires edges { All (IsScaled (length graph.now.colours)) edges.now }
     requires few { length edges.now < 2 ^ 32 }
     ensures { IfOk result (λ groups. All (IsGroup (length edges.now)) groups.items) }

@@ -1,9 +1,10 @@
 //! A walk over prices that looks for a low total: rounds of a subgradient method. It is a search, so nothing is said of
 //! what it finds.
 ghost use Rattle.std.specs.Prelude.{◌≤◌};
+ghost use Rattle.colour_graph.specs.Graph.{greatest_graph};
 ghost use Rattle.price_bound.specs.inside.Packed.{IsPacked};
 
-use crate::packed::{GREATEST_PRICE, GREATEST_VERTICES, Numbers, ONE, Packed};
+use crate::packed::{GREATEST_PRICE, Numbers, ONE, Packed, ROOM};
 
 /// How many rounds there are at most.
 const ROUNDS: u32 = 200;
@@ -20,7 +21,7 @@ const GREATEST_STEP: i64 = 1 << 36;
 /// The best scaled prices that a walk finds from a start, for so many colours.
 pub(crate) fn best_prices(packed: &Packed, start: &Numbers, colours: usize) -> Numbers
     requires packed { IsPacked packed.now }
-    requires colours { colours ≤ 512 }
+    requires colours { colours ≤ greatest_graph }
 {
     let mut prices = *start;
     let mut best = *start;
@@ -61,7 +62,7 @@ pub(crate) fn best_prices(packed: &Packed, start: &Numbers, colours: usize) -> N
 
 /// The sum of so many first numbers.
 fn sum_of(numbers: &Numbers, count: usize) -> i64
-    requires { count ≤ 512 }
+    requires { count ≤ greatest_graph }
 {
     let mut sum = 0i64;
     for place in 0..count {
@@ -71,13 +72,8 @@ fn sum_of(numbers: &Numbers, count: usize) -> i64
 }
 
 /// Moves so many first prices against their slopes, and tells whether any is to move.
-fn move_prices(
-    prices: &mut Numbers,
-    uses: &[u32; GREATEST_VERTICES],
-    count: usize,
-    step: i64,
-) -> bool
-    requires { count ≤ 512 }
+fn move_prices(prices: &mut Numbers, uses: &[u32; ROOM], count: usize, step: i64) -> bool
+    requires { count ≤ greatest_graph }
 {
     let norm = norm_of(prices, uses, count);
     if norm <= 0 {
@@ -94,8 +90,8 @@ fn move_prices(
 }
 
 /// The sum of the squares of so many first slopes.
-fn norm_of(prices: &Numbers, uses: &[u32; GREATEST_VERTICES], count: usize) -> i64
-    requires { count ≤ 512 }
+fn norm_of(prices: &Numbers, uses: &[u32; ROOM], count: usize) -> i64
+    requires { count ≤ greatest_graph }
 {
     let mut norm = 0i64;
     for colour in 0..count {

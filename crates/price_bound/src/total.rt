@@ -1,7 +1,7 @@
 //! What prices and potentials say of a whole graph.
 ghost use Rattle.std.specs.Prelude.{◌≡◌, ◌≤◌, length};
 ghost use Rattle.colour_graph.specs.Colourful.{total};
-ghost use Rattle.colour_graph.specs.Graph.{colour_count};
+ghost use Rattle.colour_graph.specs.Graph.{colour_count, greatest_vertices};
 ghost use Rattle.tree_certificate.specs.Number.{AreNear};
 ghost use Rattle.tree_certificate.specs.PriceHolds.{price_total};
 
@@ -32,7 +32,7 @@ pub(crate) fn total_of(graph: &ColourGraph, prices: &[i64], potentials: &[i64]) 
 
 /// The sum of some numbers of a certificate.
 pub(crate) fn sum(numbers: &[i64]) -> i64
-    requires few { length numbers.now ≤ 4096 }
+    requires few { length numbers.now ≤ greatest_vertices }
     requires near { AreNear numbers.now }
     ensures { result ≡ total numbers.now }
 {

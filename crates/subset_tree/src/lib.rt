@@ -4,9 +4,5 @@
 mod rebuilding;
 mod solving;
 mod table;
-#[cfg(test)]
-mod table_tests;
-#[cfg(test)]
-mod tests;
 
 pub use solving::solve_small;

@@ -9,7 +9,7 @@ ghost use Rattle.subset_tree.specs.inside.Exact.{IsExact};
 ghost use Rattle.subset_tree.specs.inside.Rebuilding.{IsChoice, IsLeftOut, IsMissed, IsStep, given, owned};
 ghost use Rattle.tree_certificate.specs.ColourSet.{place_of};
 ghost use Rattle.tree_certificate.specs.Number.{AreNumbers};
-ghost use Rattle.tree_certificate.specs.TableHolds.{FitsGraph, number_of, table_total};
+ghost use Rattle.tree_certificate.specs.TableHolds.{FitsGraph, greatest_colours, number_of, table_total};
 
 use colour_graph::{Colour, ColourGraph, Edge, EdgeId, VertexId};
 use std::alloc::{AllocError, Global};
@@ -72,7 +72,7 @@ fn decide(
 
 /// The place of the set of colours that a vertex owns.
 fn place_owned(owners: &[VertexId], vertex: VertexId) -> usize
-    requires { length owners.now ≤ 12 }
+    requires { length owners.now ≤ greatest_colours }
     ensures { result ≡ place_of (owned vertex owners.now) }
 {
     let mut place = 0;
@@ -190,7 +190,7 @@ fn number_at(
 /// 2 to a small number: how far the places of sets of the colours behind one stand apart in the row of a vertex that
 /// has so many colours more before them.
 fn step_of(more: u16) -> usize
-    requires { more ≤ 12 }
+    requires { more ≤ greatest_colours }
     ensures { result ≡ 2 ^ more }
 {
     1 << more

@@ -5,9 +5,9 @@ ghost use Rattle.colour_graph.specs.Bounded.{IsBest};
 ghost use Rattle.colour_graph.specs.Cap.{cap_of};
 ghost use Rattle.colour_graph.specs.Colourful.{score_of};
 ghost use Rattle.colour_graph.specs.EdgeSet.{all_edges};
-ghost use Rattle.colour_graph.specs.Graph.{colour_count};
+ghost use Rattle.colour_graph.specs.Graph.{colour_count, greatest_graph};
 ghost use Rattle.colour_graph.specs.Maximal.{IsMaximal};
-ghost use Rattle.tree_certificate.specs.TableHolds.{TableHolds};
+ghost use Rattle.tree_certificate.specs.TableHolds.{TableHolds, greatest_colours};
 
 use crate::rebuilding::read_tree;
 use crate::table::fill_table;
@@ -15,16 +15,16 @@ use colour_graph::{ColourGraph, EdgeId, a_best_list_is_maximal};
 use std::alloc::{AllocError, Global};
 use tree_certificate::{TableCert, the_cap_bounds_every_tree, what_holds_bounds_every_tree};
 
-/// A colourful tree of a graph of at most 12 colours and 512 vertices that no colourful tree outscores, as the numbers
-/// of its edges in rising order; and the table that holds with its score as upper bound.
+/// A colourful tree that no colourful tree outscores, as the numbers of its edges in rising order; and the table that
+/// holds with its score as upper bound. The graph has at most `GREATEST_COLOURS` colours and `GREATEST_GRAPH` vertices.
 pub fn solve_small(
     alloc: Global,
     graph: &ColourGraph,
 ) -> Result<(Vec<EdgeId>, TableCert), AllocError>
-    requires colours { colour_count graph.now ≤ 12 }
-    requires vertices { length graph.now.colours ≤ 512 }
+    requires colours { colour_count graph.now ≤ greatest_colours }
+    requires vertices { length graph.now.colours ≤ greatest_graph }
     ensures best { IfOk result (λ found. IsBest graph.now found.0.items) }
-    ensures few { IfOk result (λ found. length found.0.items ≤ 12) }
+    ensures few { IfOk result (λ found. length found.0.items ≤ greatest_colours) }
     ensures rising { IfOk result (λ found. AllPairs (λ edge later. edge < later) found.0.items) }
     ensures holds { IfOk result (λ found. TableHolds graph.now found.1 (score_of graph.now found.0.items)) }
     ensures maximal { IfOk result (λ found. IsMaximal graph.now found.0.items) }

@@ -1,10 +1,11 @@
 //! The filling of the table of a graph of few colours with exact numbers, after Böcker and Rasche 2008.
 ghost use Rattle.std.specs.Prelude.{◌≡◌, ◌≤◌, ◌<◌, ◌+◌, ◌-◌, ◌*◌, ◌^◌, ◌↔◌, ℕ, ℤ, pos, negsuc, ◌+ℤ◌, ◌≤ℤ◌, List, Bool, false, IfOk, length, map};
-ghost use Rattle.colour_graph.specs.Graph.{IsGraph, colour_count, colour_of};
+ghost use Rattle.colour_graph.specs.Graph.{IsGraph, colour_count, colour_of, greatest_graph};
 ghost use Rattle.subset_tree.specs.inside.Exact.{IsExact};
 ghost use Rattle.subset_tree.specs.inside.Filling.{AreFilledFrom, AreGains, AreGainsBefore, AreModest, IsEnough, IsFilledTo, IsRaised, number_in};
 ghost use Rattle.tree_certificate.specs.ColourSet.{place_of};
 ghost use Rattle.tree_certificate.specs.Number.{AreNumbers};
+ghost use Rattle.tree_certificate.specs.TableHolds.{greatest_colours};
 
 use colour_graph::{Colour, ColourGraph, VertexId};
 use std::alloc::{AllocError, Global};
@@ -12,10 +13,10 @@ use std::alloc::{AllocError, Global};
 /// What no edge gains, less than any that one does.
 const NOTHING: i64 = -1_000_000_000;
 
-/// The table of a graph of at most 12 colours and 512 vertices in which each number is the least that it may be.
+/// The table of a graph in which each number is the least that it may be.
 pub(crate) fn fill_table(alloc: Global, graph: &ColourGraph) -> Result<Vec<Vec<i64>>, AllocError>
-    requires colours { colour_count graph.now ≤ 12 }
-    requires vertices { length graph.now.colours ≤ 512 }
+    requires colours { colour_count graph.now ≤ greatest_colours }
+    requires vertices { length graph.now.colours ≤ greatest_graph }
     ensures exact { IfOk result (λ rows. IsExact graph.now (map (λ row. row.items) rows.items)) }
     ensures numbers { IfOk result (λ rows. AreNumbers (map (λ row. row.items) rows.items)) }
 {
@@ -44,7 +45,7 @@ fn row_of(
     gains: &mut [i64],
 ) -> Result<Vec<i64>, AllocError>
     requires graph { IsGraph graph.now }
-    requires few { colour_count graph.now ≤ 12 }
+    requires few { colour_count graph.now ≤ greatest_colours }
     requires vertex { vertex < length graph.now.colours }
     requires rows { AreFilledFrom graph.now (map (λ row. row.items) rows.now) (vertex + 1) }
     requires gains { length gains.old ≡ 2 ^ colour_count graph.now }
@@ -67,9 +68,9 @@ fn row_of(
 
 /// How many sets there are of so many colours.
 fn set_count(colours: usize) -> usize
-    requires { colours ≤ 12 }
+    requires { colours ≤ greatest_colours }
     ensures count { result ≡ 2 ^ colours }
-    ensures few { result ≤ 4096 }
+    ensures few { result ≤ 2 ^ greatest_colours }
 {
     1 << colours
 }
@@ -84,7 +85,7 @@ fn gather_gains(
     gains: &mut [i64],
 ) -> bool
     requires graph { IsGraph graph.now }
-    requires few { colour_count graph.now ≤ 12 }
+    requires few { colour_count graph.now ≤ greatest_colours }
     requires vertex { vertex < length graph.now.colours }
     requires rows { AreFilledFrom graph.now (map (λ row. row.items) rows.now) (vertex + 1) }
     requires colour { (0 < colour) × (colour ≤ colour_count graph.now) }
@@ -121,7 +122,7 @@ fn clear_gains(gains: &mut [i64])
 fn raise_gains(gains: &mut [i64], weight: i32, numbers: &[i64])
     requires weight { (negsuc 99999 ≤ℤ weight) × (weight ≤ℤ pos 100000) }
     requires numbers { AreModest numbers.now }
-    requires few { length numbers.now ≤ 4096 }
+    requires few { length numbers.now ≤ 2 ^ greatest_colours }
     requires room { length numbers.now ≤ length gains.old }
     requires gains { AreGains gains.old }
     ensures length { length gains.new ≡ length gains.old }
@@ -149,7 +150,7 @@ fn raised(most: i64, gain: i64, rest: i64) -> i64
 /// Makes the numbers for the sets of some last colours, at the first places, into those for one smaller colour more.
 fn widen(numbers: &mut [i64], gains: &[i64], any: bool)
     requires room { 2 * length gains.now ≤ length numbers.old }
-    requires few { length numbers.old ≤ 4096 }
+    requires few { length numbers.old ≤ 2 ^ greatest_colours }
     requires gains { AreGains gains.now }
     requires modest { AreModest numbers.old }
     requires none { any ≡ false → (place : ℕ) → place < length gains.now
@@ -172,7 +173,7 @@ fn widen(numbers: &mut [i64], gains: &[i64], any: bool)
 
 /// The least number that is enough for a set, given by its place, beside one smaller colour.
 fn least_enough(numbers: &[i64], gains: &[i64], set: usize, any: bool) -> i64
-    requires few { set < 4096 }
+    requires few { set < 2 ^ greatest_colours }
     requires room { (set < length numbers.now) × (set < length gains.now) }
     requires modest { AreModest numbers.now }
     requires gains { AreGains gains.now }
@@ -192,7 +193,7 @@ fn least_enough(numbers: &[i64], gains: &[i64], set: usize, any: bool) -> i64
 
 /// The same where there is an edge into the smaller colour, by a walk over all parts of the set.
 fn greatest_sum(numbers: &[i64], gains: &[i64], set: usize) -> i64
-    requires few { set < 4096 }
+    requires few { set < 2 ^ greatest_colours }
     requires room { (set < length numbers.now) × (set < length gains.now) }
     requires modest { AreModest numbers.now }
     requires gains { AreGains gains.now }

@@ -3,7 +3,7 @@ ghost use Rattle.std.specs.Prelude.{◌≡◌, ◌≢◌, ◌≤◌, ◌<◌, �
 ghost use Rattle.std.specs.List.{All, AllPairs};
 ghost use Rattle.tree_entry.specs.Rows.{AreRows, IsParent, IsRow, edges_of, head_of, row_at};
 ghost use Rattle.colour_graph.specs.Colourful.{IsColourful};
-ghost use Rattle.colour_graph.specs.Graph.{edge_at};
+ghost use Rattle.colour_graph.specs.Graph.{edge_at, greatest_graph};
 
 use colour_graph::{EdgeId, VertexId};
 use loss_graph::LossGraph;
@@ -18,7 +18,7 @@ pub fn tree_rows(
 ) -> Result<Vec<TreeRow>, AllocError>
     requires colourful { IsColourful built.now.graph edges.now }
     requires rising { AllPairs (λ edge later. edge < later) edges.now }
-    requires few { length edges.now ≤ 512 }
+    requires few { length edges.now ≤ greatest_graph }
     ensures rows { IfOk result (λ rows. AreRows built.now rows.items) }
     ensures edges { IfOk result (λ rows. edges_of rows.items ≡ edges.now) }
 {
@@ -36,7 +36,7 @@ pub fn tree_rows(
 fn row_of(built: &LossGraph, rows: &[TreeRow], edge: EdgeId) -> TreeRow
     requires edge { edge < length built.now.graph.edges }
     requires others { All (λ row. row.edge < length built.now.graph.edges) rows.now }
-    requires few { length rows.now < 512 }
+    requires few { length rows.now < greatest_graph }
     requires rises { 0 < length rows.now → (row_at rows.now (length rows.now - 1)).edge < edge }
     requires reached { ((edge_at built.now.graph edge).tail ≡ 0)
         ⊎ ((row : ℕ) × (row < length rows.now)
@@ -62,7 +62,7 @@ fn row_of(built: &LossGraph, rows: &[TreeRow], edge: EdgeId) -> TreeRow
 /// The number of the row whose edge goes to a vertex, from 1, or 0 for the root.
 fn parent_of(built: &LossGraph, rows: &[TreeRow], vertex: VertexId) -> u16
     requires others { All (λ row. row.edge < length built.now.graph.edges) rows.now }
-    requires few { length rows.now < 512 }
+    requires few { length rows.now < greatest_graph }
     requires reached { (vertex ≡ 0)
         ⊎ ((row : ℕ) × (row < length rows.now) × (head_of built.now.graph rows.now row ≡ vertex)) }
     ensures { IsParent built.now.graph rows.now (length rows.now) vertex result }

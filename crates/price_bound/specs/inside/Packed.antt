@@ -1,6 +1,7 @@
 -- Edges that are packed for the rounds of an improvement: where they may point to.
 use Rattle.std.specs.Prelude.{◌<◌, ◌≤◌, ℕ, ℤ, pos, ◌≤ℤ◌, List, length}
 use Rattle.std.specs.List.{All}
+use Rattle.colour_graph.specs.Graph.{greatest_graph}
 use Rattle.price_bound.specs.declared.packed.Group.{Group}
 use Rattle.price_bound.specs.declared.packed.Packed.{Packed}
 use Rattle.price_bound.specs.declared.packed.Scaled.{Scaled}
@@ -13,13 +14,13 @@ pub record IsScaled (vertices : ℕ) (edge : Scaled) : Type 0 where
 
 -- a group of so many edges
 pub record IsGroup (edges : ℕ) (group : Group) : Type 0 where
-  pub tail : group.tail < 512
-  pub colour : group.colour < 512
+  pub tail : group.tail < greatest_graph
+  pub colour : group.colour < greatest_graph
   pub in_order : group.first ≤ group.past
   pub within : group.past ≤ edges
 
 pub record IsPacked (packed : Packed) : Type 0 where
-  pub edges : All (IsScaled 512) packed.edges.items
+  pub edges : All (IsScaled greatest_graph) packed.edges.items
   pub groups : All (IsGroup (length packed.edges.items)) packed.groups.items
 
 -- a scaled potential
