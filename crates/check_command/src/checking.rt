@@ -19,13 +19,13 @@ ghost use Rattle.run_plan.specs.Running.{Ends, HasDone, IsUnfinished, status_of}
 ghost use Rattle.right_document.specs.SettingsOf.{solve_settings_value_of};
 
 use crate::document::{Checked, check_text};
-use order_words::DocumentNames;
-use run_plan::{DocumentSlot, Status, read_spectra, read_text, take_profile, write_report};
-use right_document::{SolveSettings, candidate_rules_of, fragment_rules_of, solve_settings};
 use element_table::Formula;
 use frag_io::{Desk, Slot};
 use mgf_reader::MgfFault;
+use order_words::DocumentNames;
 use profile::Profile;
+use right_document::{SolveSettings, candidate_rules_of, fragment_rules_of, solve_settings};
+use run_plan::{DocumentSlot, Status, read_spectra, read_text, take_profile, write_report};
 use std::alloc::{AllocError, Global};
 use valence_filter::{Sieve, all_hold};
 

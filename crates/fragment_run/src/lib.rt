@@ -13,13 +13,12 @@ ghost use Rattle.list_command.specs.ListPromise.{ListPromise};
 ghost use Rattle.solve_command.specs.SolvePromise.{SolvePromise};
 ghost use Rattle.fragment_run.specs.PlanOf.{plan_of};
 
+pub use check_command::{a_rejected_document_is_not_right, what_is_accepted_is_nothing_else};
 use frag_io::Desk;
 use order_words::{Order, read_order};
-use std::alloc::Global;
-
-pub use check_command::{a_rejected_document_is_not_right, what_is_accepted_is_nothing_else};
 pub use right_document::a_spectrum_has_one_outline;
 pub use run_plan::{GREATEST_DOCUMENT, GREATEST_TEXT, RejectPart, RejectPlace, Status, fault_text};
+use std::alloc::Global;
 
 /// Runs the order that the words give over a desk of which no slot was begun, and says how it ended.
 pub fn run<D: Desk>(alloc: Global, words: &[String], desk: &mut D) -> Status

@@ -119,16 +119,16 @@ solved : (settings : SolveSettingsValue) (text : List ℕ) (before now : DeskSta
     → IsSolved settings text fault now.written
 solved settings text before now found fault bytes reported told made no_document no_report document_is report_is =
     record {
-  document = made.document;
-  right = subst (λ f. DocumentIsRight settings text f made.document) told made.right;
-  spelled = written_alone (before.written CertOut) (now.written CertOut) bytes (λ b. b ≡ spelling_of made.document)
-      no_document document_is
-      made.is_spelled;
-  good = made.good;
-  reported = written_alone (before.written Report) (now.written Report) reported (λ b. b ≡ report_text_of made.document)
-      no_report report_is
-      made.is_reported;
-}
+      document = made.document;
+      right = subst (λ f. DocumentIsRight settings text f made.document) told made.right;
+      spelled = written_alone (before.written CertOut) (now.written CertOut) bytes (λ b. b ≡ spelling_of made.document)
+          no_document document_is
+          made.is_spelled;
+      good = made.good;
+      reported = written_alone (before.written Report) (now.written Report) reported (λ b. b ≡ report_text_of made.document)
+          no_report report_is
+          made.is_reported;
+    }
 
 -- what is owed where they were written whole
 pub done_solves : (settings : SolveSettingsValue) (text : List ℕ) (before now : DeskState) (found : Option MgfFault)

@@ -18,13 +18,13 @@ ghost use Rattle.run_plan.specs.TextSteps.{ArePartlyWritten, IsWriteStop};
 ghost use Rattle.solve_command.specs.SolvePlan.{solve_plan, solve_steps_of};
 ghost use Rattle.solve_command.specs.SolvePromise.{SolvePromise, solve_meaning};
 
-use order_words::DocumentNames;
-use run_plan::{DocumentSlot, Status, finish_slot, read_spectra, take_profile, write_slot};
-use right_document::{SolveSettings, candidate_rules_of, fragment_rules_of, solve_settings};
 use crate::document::{Solution, solve_text};
 use element_table::Formula;
 use frag_io::{Desk, Slot};
+use order_words::DocumentNames;
 use profile::Profile;
+use right_document::{SolveSettings, candidate_rules_of, fragment_rules_of, solve_settings};
+use run_plan::{DocumentSlot, Status, finish_slot, read_spectra, take_profile, write_slot};
 use std::alloc::Global;
 use tree_document::parts_make_the_spelling;
 use valence_filter::{Sieve, all_hold};

@@ -31,7 +31,7 @@ pub returns-in_err-bytes-clause-ends : goal.returns-in_err-bytes-clause-ends
 returns-in_err-bytes-clause-ends g c = λ done before did.
     let text : List Step = text_steps c.args.name.now (Some (begin CertIn c.args.document.now)) in
     let unread_document = unread_behind done text CertIn
-        (unread done before (g.D.Desk.state c.args.desk.now) CertIn did (c.requires.only CertIn (λ is. cc))) refl in
+    (unread done before (g.D.Desk.state c.args.desk.now) CertIn did (c.requires.only CertIn (λ is. cc))) refl in
     let p = err_from_is_err_and c.from_residual-in_err-bytes.result c.from_residual-in_err-bytes.ensures.1 in
     rw (p.1, p.2) (ends_behind done text (read CertIn ∷ report_steps) before (g.D.Desk.state c.read_text.new.desk) _
     (c.in_err-bytes.ensures.ends (done ++ text) report_steps before (c.in_ok-text.ensures.done done before did) unread_document))
@@ -40,7 +40,7 @@ pub returns-in_err-fault-clause-ends : goal.returns-in_err-fault-clause-ends
 returns-in_err-fault-clause-ends g c = λ done before did.
     let text : List Step = text_steps c.args.name.now (Some (begin CertIn c.args.document.now)) in
     let unread_document = unread_behind done text CertIn
-        (unread done before (g.D.Desk.state c.args.desk.now) CertIn did (c.requires.only CertIn (λ is. cc))) refl in
+    (unread done before (g.D.Desk.state c.args.desk.now) CertIn did (c.requires.only CertIn (λ is. cc))) refl in
     let p = err_from_is_err_and c.from_residual-in_err-fault.result c.from_residual-in_err-fault.ensures.1 in
     rw (p.1, p.2) (read_behind done text report_steps (read CertIn) before (g.D.Desk.state c.read_text.new.desk) _
     (memory_ends ((done ++ text) ++ read CertIn ∷ []) report_steps before (g.D.Desk.state c.read_text.new.desk)
@@ -50,7 +50,7 @@ pub returns-in-Refused-clause-ends : goal.returns-in-Refused-clause-ends
 returns-in-Refused-clause-ends g c = λ done before did.
     let text : List Step = text_steps c.args.name.now (Some (begin CertIn c.args.document.now)) in
     let unread_document = unread_behind done text CertIn
-        (unread done before (g.D.Desk.state c.args.desk.now) CertIn did (c.requires.only CertIn (λ is. cc))) refl in
+    (unread done before (g.D.Desk.state c.args.desk.now) CertIn did (c.requires.only CertIn (λ is. cc))) refl in
     read_behind done text report_steps (read CertIn) before (g.D.Desk.state c.read_text.new.desk) (DocumentRefused c.in-Refused.fault)
     (refused_ends (done ++ text) report_steps before (g.D.Desk.state c.read_text.new.desk) CertIn (DocumentRefused c.in-Refused.fault) refl refl
     (c.read_text.ensures.begun CertIn ∙ c.in_ok-text.ensures.begun.documents CertIn tt)
@@ -60,7 +60,7 @@ pub returns-in-Rejected-clause-ends : goal.returns-in-Rejected-clause-ends
 returns-in-Rejected-clause-ends g c = λ done before did.
     let text : List Step = text_steps c.args.name.now (Some (begin CertIn c.args.document.now)) in
     let unread_document = unread_behind done text CertIn
-        (unread done before (g.D.Desk.state c.args.desk.now) CertIn did (c.requires.only CertIn (λ is. cc))) refl in
+    (unread done before (g.D.Desk.state c.args.desk.now) CertIn did (c.requires.only CertIn (λ is. cc))) refl in
     read_behind done text report_steps (read CertIn) before (g.D.Desk.state c.read_text.new.desk) (DocumentRejected c.in-Rejected.place)
     (refused_ends (done ++ text) report_steps before (g.D.Desk.state c.read_text.new.desk) CertIn (DocumentRejected c.in-Rejected.place) refl refl
     (c.read_text.ensures.begun CertIn ∙ c.in_ok-text.ensures.begun.documents CertIn tt)
@@ -70,7 +70,7 @@ pub returns-clause-ends : goal.returns-clause-ends
 returns-clause-ends g c = λ done before did.
     let text : List Step = text_steps c.args.name.now (Some (begin CertIn c.args.document.now)) in
     let unread_document = unread_behind done text CertIn
-        (unread done before (g.D.Desk.state c.args.desk.now) CertIn did (c.requires.only CertIn (λ is. cc))) refl in
+    (unread done before (g.D.Desk.state c.args.desk.now) CertIn did (c.requires.only CertIn (λ is. cc))) refl in
     read_behind done text report_steps (read CertIn) before (g.D.Desk.state c.tell_accepted.new.desk) _
     (c.tell_accepted.ensures.ends ((done ++ text) ++ read CertIn ∷ []) before
     (c.in_ok-bytes.ensures.done (done ++ text) before (c.in_ok-text.ensures.done done before did) unread_document))
