@@ -14,7 +14,11 @@ ghost use Rattle.solve_command.specs.SolvePromise.{SolvePromise};
 ghost use Rattle.fragment_run.specs.PlanOf.{plan_of};
 
 pub use check_command::{a_rejected_document_is_not_right, what_is_accepted_is_nothing_else};
+
+mod laws;
+
 use frag_io::Desk;
+pub use laws::what_solve_wrote_check_accepts;
 use order_words::{Order, read_order};
 pub use right_document::a_spectrum_has_one_outline;
 pub use run_plan::{GREATEST_DOCUMENT, GREATEST_TEXT, RejectPart, RejectPlace, Status, fault_text};
