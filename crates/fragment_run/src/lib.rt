@@ -14,8 +14,6 @@ ghost use Rattle.solve_command.specs.SolvePromise.{SolvePromise};
 
 mod candidates;
 mod check;
-#[cfg(test)]
-mod check_tests;
 mod ending;
 mod laws;
 mod list;
@@ -26,12 +24,8 @@ mod reading;
 mod reject;
 mod settings;
 mod solve;
-#[cfg(test)]
-mod solve_tests;
 mod status;
 mod steps;
-#[cfg(test)]
-mod tests;
 mod text_steps;
 mod words;
 
