@@ -1,3 +1,2 @@
 pub mod CheckAnswers
 pub mod Checked
-pub mod NoMemory

@@ -18,7 +18,7 @@ use mgf_reader::{MgfFault, Reader};
 use right_document::{SolveSettings, ending_of};
 use run_plan::{RejectPart, RejectPlace, read_all};
 use std::alloc::{AllocError, Global};
-use tree_document::{CertFault, Document, Section, read_document};
+use tree_document::{CertFault, Document, DocumentError, Section, read_document};
 
 /// What a check finds of the bytes of a document: that they are refused, or where the document differs first from the
 /// right ones of the text, or that it is right, how many sections it has, and the line that refused the text, where
@@ -45,8 +45,8 @@ pub fn check_text(
 {
     match read_document(alloc, bytes) {
         Ok(document) => compare(alloc, text, &document, settings),
-        Err(CertFault::OutOfMemory) => Err(AllocError),
-        Err(fault) => Ok(Checked::Refused(fault)),
+        Err(DocumentError::Refused(fault)) => Ok(Checked::Refused(fault)),
+        Err(DocumentError::OutOfMemory) => Err(AllocError),
     }
 }
 
