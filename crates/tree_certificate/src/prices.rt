@@ -28,7 +28,8 @@ impl PriceCert {
     /// The certificate of these prices and potentials, and none exactly where a number is more than 10^15 away from 0.
     pub fn new(prices: Vec<i64>, potentials: Vec<i64>) -> Option<PriceCert>
         ensures some { IsSome result ↔ ((AreNear prices.items) × (AreNear potentials.items)) }
-        ensures numbers { IfSome result (λ cert. cert ≡ record { prices = prices.items; potentials = potentials.items }) }
+        ensures numbers { IfSome result
+            (λ cert. cert ≡ record { prices = prices.items; potentials = potentials.items }) }
     {
         if are_near_zero(&prices) && are_near_zero(&potentials) {
             Some(PriceCert { prices, potentials })

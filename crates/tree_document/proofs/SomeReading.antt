@@ -1,6 +1,6 @@
 -- Bytes have a reading: where their lines do not stop, they are those of a document.
 use Rattle.std.proofs.Common.{◌≡◌, ◌+◌, ◌-◌, ◌∙◌, ℕ, Bool, true, false, List, [], ◌∷◌, ◌++◌, length, Option, Some, None}
-use Rattle.std.proofs.Common.{Result, Ok, Err, eqb, ltb, inl, inr, refl, sym, ap, subst, cond, arith}
+use Rattle.std.proofs.Common.{Result, Ok, Err, eqb, ltb, inl, inr, refl, sym, ap}
 use Rattle.std.specs.List.{flat_map}
 use Rattle.std.proofs.lemmas.Bool.{cond-false, eqb-true}
 use Rattle.std.proofs.lemmas.List.{append-nil}

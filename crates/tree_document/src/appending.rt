@@ -35,7 +35,8 @@ pub fn push_spectrum(text: &mut Vec<u8>, line: u32, title: &[u8]) -> Result<(), 
 
 /// Appends the line that counts some lists, and their lines.
 pub fn push_lists(text: &mut Vec<u8>, lists: &[FormulaList]) -> Result<(), AllocError>
-    ensures appended { OnOk result (text.new.items ≡ text.old.items ++ text_of (lists_line (length lists.now) ∷ flat_map list_lines lists.now)) }
+    ensures appended { OnOk result (text.new.items ≡ text.old.items
+        ++ text_of (lists_line (length lists.now) ∷ flat_map list_lines lists.now)) }
     ensures unchanged { OnErr result (text.new.items ≡ text.old.items) }
 {
     let mut more = Vec::new(*text.allocator());

@@ -167,7 +167,8 @@ fn is_body(head: &BodyHead) -> bool
 pub fn list_head(bytes: &[u8]) -> Result<((u64, u64, u64), &[u8]), Stop<'_>>
     ensures { Takes need_list (λ x. spec.list_line x.0 x.1 x.2) bytes.now result }
 {
-    take_line!(bytes, line => lines::list(line), (mz, intensity, count) => (mz, intensity, count), if is_list(mz, intensity, count))
+    take_line!(bytes, line => lines::list(line), (mz, intensity, count) => (mz, intensity, count),
+        if is_list(mz, intensity, count))
 }
 
 /// Whether the numbers of a list's line are in their ranges.

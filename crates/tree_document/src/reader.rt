@@ -55,8 +55,8 @@ macro_rules! read_counted {
 
 /// So many lines of formulas.
 fn read_formulas(alloc: Global, count: u64, bytes: &[u8]) -> Result<(Vec<Formula>, &[u8]), Stop<'_>>
-    ensures taken { TakesAll (replicate count need_formula) (λ items. map (λ counts. spec.formula_line counts) items.items)
-        bytes.now result }
+    ensures taken { TakesAll (replicate count need_formula)
+        (λ items. map (λ counts. spec.formula_line counts) items.items) bytes.now result }
     ensures count { IfOk result (λ both. length both.0.items ≡ count) }
 {
     read_counted!(alloc, count, bytes, rest => formula_line(rest))
@@ -156,7 +156,8 @@ fn read_potentials(
     bytes: &[u8],
 ) -> Result<(PriceCert, &[u8]), Stop<'_>>
     requires { AreNear prices.items }
-    ensures taken { TakesAll (need_potentials ∷ []) (λ cert. spec.potentials_line cert.potentials ∷ []) bytes.now result }
+    ensures taken { TakesAll (need_potentials ∷ []) (λ cert. spec.potentials_line cert.potentials ∷ [])
+        bytes.now result }
     ensures prices { IfOk result (λ both. both.0.prices ≡ prices.items) }
 {
     let (potentials, rest) = part!(potentials_line(alloc, bytes));

@@ -63,181 +63,112 @@ pub record Shape : Type 0 where
   pub tail : Tail
   pub make : Values kinds tail → Line
 
+abbrev pub shape_with : List ℕ → (kinds : List Kind) (tail : Tail) → (Values kinds tail → Line) → Shape
+shape_with word kinds tail make = record { word = word; kinds = kinds; tail = tail; make = make }
+
 abbrev pub header_shape : Shape
-header_shape = record {
-  word = codes "fragdoc";
-  kinds = word_kind (codes "1") ∷ [];
-  tail = no_tail;
-  make = λ values. header_line;
-}
+header_shape = shape_with (codes "fragdoc") (word_kind (codes "1") ∷ []) no_tail (λ values. header_line)
 
 abbrev pub clean_shape : Shape
-clean_shape = record {
-  word = codes "end";
-  kinds = word_kind (codes "clean") ∷ [];
-  tail = no_tail;
-  make = λ values. clean_line;
-}
+clean_shape = shape_with (codes "end") (word_kind (codes "clean") ∷ []) no_tail (λ values. clean_line)
 
 abbrev pub refused_shape : Shape
-refused_shape = record {
-  word = codes "end";
-  kinds = word_kind (codes "refused") ∷ number_kind 0 greatest_line_number ∷ kind_kind ∷ [];
-  tail = no_tail;
-  make = λ values. refused_line values.1.0 values.1.1.0;
-}
+refused_shape =
+    shape_with (codes "end") (word_kind (codes "refused") ∷ number_kind 0 greatest_line_number ∷ kind_kind ∷ []) no_tail
+    (λ values. refused_line values.1.0 values.1.1.0)
 
 abbrev pub spectrum_shape : Shape
-spectrum_shape = record {
-  word = codes "spectrum";
-  kinds = number_kind 0 greatest_line_number ∷ [];
-  tail = title_tail;
-  make = λ values. spectrum_line values.0 values.1;
-}
+spectrum_shape =
+    shape_with (codes "spectrum") (number_kind 0 greatest_line_number ∷ []) title_tail
+    (λ values. spectrum_line values.0 values.1)
 
 abbrev pub no_precursor_shape : Shape
-no_precursor_shape = record {
-  word = codes "skip";
-  kinds = word_kind (codes "no-precursor") ∷ [];
-  tail = no_tail;
-  make = λ values. skip_line NoPrecursor;
-}
+no_precursor_shape =
+    shape_with (codes "skip") (word_kind (codes "no-precursor") ∷ []) no_tail (λ values. skip_line NoPrecursor)
 
 abbrev pub charge_shape : Shape
-charge_shape = record {
-  word = codes "skip";
-  kinds = word_kind (codes "charge") ∷ [];
-  tail = no_tail;
-  make = λ values. skip_line Charge;
-}
+charge_shape = shape_with (codes "skip") (word_kind (codes "charge") ∷ []) no_tail (λ values. skip_line Charge)
 
 abbrev pub range_shape : Shape
-range_shape = record {
-  word = codes "skip";
-  kinds = word_kind (codes "range") ∷ number_kind 0 greatest_peak_number ∷ [];
-  tail = no_tail;
-  make = λ values. skip_line (Range values.1.0);
-}
+range_shape =
+    shape_with (codes "skip") (word_kind (codes "range") ∷ number_kind 0 greatest_peak_number ∷ []) no_tail
+    (λ values. skip_line (Range values.1.0))
 
 abbrev pub too_many_shape : Shape
-too_many_shape = record {
-  word = codes "skip";
-  kinds = word_kind (codes "too-many") ∷ number_kind 0 greatest_peak_number ∷ [];
-  tail = no_tail;
-  make = λ values. skip_line (TooMany values.1.0);
-}
+too_many_shape =
+    shape_with (codes "skip") (word_kind (codes "too-many") ∷ number_kind 0 greatest_peak_number ∷ []) no_tail
+    (λ values. skip_line (TooMany values.1.0))
 
 abbrev pub lists_shape : Shape
-lists_shape = record {
-  word = codes "lists";
-  kinds = number_kind 1 greatest_section_lists ∷ [];
-  tail = no_tail;
-  make = λ values. lists_line values.0;
-}
+lists_shape =
+    shape_with (codes "lists") (number_kind 1 greatest_section_lists ∷ []) no_tail (λ values. lists_line values.0)
 
 abbrev pub list_shape : Shape
-list_shape = record {
-  word = codes "list";
-  kinds = number_kind 0 greatest_peak_number ∷ number_kind 0 greatest_peak_number ∷ number_kind 0 greatest_listed ∷ [];
-  tail = no_tail;
-  make = λ values. list_line values.0 values.1.0 values.1.1.0;
-}
+list_shape =
+    shape_with (codes "list")
+    (number_kind 0 greatest_peak_number ∷ number_kind 0 greatest_peak_number ∷ number_kind 0 greatest_listed ∷ [])
+    no_tail
+    (λ values. list_line values.0 values.1.0 values.1.1.0)
 
 abbrev pub formula_shape : Shape
-formula_shape = record {
-  word = codes "f";
-  kinds = formula_kind ∷ [];
-  tail = no_tail;
-  make = λ values. formula_line values.0;
-}
+formula_shape = shape_with (codes "f") (formula_kind ∷ []) no_tail (λ values. formula_line values.0)
 
 abbrev pub entries_shape : Shape
-entries_shape = record {
-  word = codes "entries";
-  kinds = number_kind 0 greatest_listed ∷ [];
-  tail = no_tail;
-  make = λ values. entries_line values.0;
-}
+entries_shape =
+    shape_with (codes "entries") (number_kind 0 greatest_listed ∷ []) no_tail (λ values. entries_line values.0)
 
 abbrev pub too_large_shape : Shape
-too_large_shape = record {
-  word = codes "entry";
-  kinds = formula_kind ∷ number_kind 0 greatest_error ∷ word_kind (codes "too-large") ∷ number_kind 0
-      greatest_line_number
-      ∷ [];
-  tail = no_tail;
-  make = λ values. too_large_line values.0 values.1.0 values.1.1.1.0;
-}
+too_large_shape =
+    shape_with (codes "entry")
+    (formula_kind ∷ number_kind 0 greatest_error ∷ word_kind (codes "too-large") ∷ number_kind 0
+    greatest_line_number ∷ []) no_tail
+    (λ values. too_large_line values.0 values.1.0 values.1.1.1.0)
 
 abbrev pub tree_shape : Shape
-tree_shape = record {
-  word = codes "entry";
-  kinds = formula_kind ∷ number_kind 0 greatest_error ∷ signed_kind greatest_number ∷ signed_kind
-      greatest_number ∷ mark_kind
-      ∷ number_kind 0 greatest_rows ∷ [];
-  tail = no_tail;
-  make = λ values. tree_line values.0 values.1.0 values.1.1.0 values.1.1.1.0 values.1.1.1.1.0 values.1.1.1.1.1.0;
-}
+tree_shape =
+    shape_with (codes "entry")
+    (formula_kind ∷ number_kind 0 greatest_error ∷ signed_kind greatest_number ∷ signed_kind
+    greatest_number ∷ mark_kind ∷ number_kind 0 greatest_rows ∷ []) no_tail
+    (λ values. tree_line values.0 values.1.0 values.1.1.0 values.1.1.1.0 values.1.1.1.1.0 values.1.1.1.1.1.0)
 
 abbrev pub row_shape : Shape
-row_shape = record {
-  word = codes "r";
-  kinds = number_kind 0 greatest_edge ∷ number_kind 0 greatest_rows ∷ number_kind 0 greatest_rows ∷ formula_kind
-      ∷ formula_kind ∷ signed_kind greatest_weight ∷ [];
-  tail = no_tail;
-  make = λ values. row_line (record {
-    edge = values.0;
-    parent = values.1.0;
-    peak = values.1.1.0;
-    formula = values.1.1.1.0;
-    loss = values.1.1.1.1.0;
-    weight = values.1.1.1.1.1.0;
-  });
-}
+row_shape =
+    shape_with (codes "r")
+    (number_kind 0 greatest_edge ∷ number_kind 0 greatest_rows ∷ number_kind 0 greatest_rows ∷ formula_kind
+    ∷ formula_kind ∷ signed_kind greatest_weight ∷ []) no_tail
+    (λ values. row_line (record {
+      edge = values.0;
+      parent = values.1.0;
+      peak = values.1.1.0;
+      formula = values.1.1.1.0;
+      loss = values.1.1.1.1.0;
+      weight = values.1.1.1.1.1.0;
+    }))
 
 abbrev pub table_shape : Shape
-table_shape = record {
-  word = codes "table";
-  kinds = number_kind 0 greatest_rows ∷ [];
-  tail = no_tail;
-  make = λ values. table_line values.0;
-}
+table_shape = shape_with (codes "table") (number_kind 0 greatest_rows ∷ []) no_tail (λ values. table_line values.0)
 
 abbrev pub table_row_shape : Shape
-table_row_shape = record {
-  word = codes "t";
-  kinds = [];
-  tail = numbers_tail false greatest_numbers greatest_number;
-  make = λ values. table_row_line values;
-}
+table_row_shape =
+    shape_with (codes "t") [] (numbers_tail false greatest_numbers greatest_number) (λ values. table_row_line values)
 
 -- the ways to read a line of a bound under so many splits
 abbrev pub split_shape : ℕ → Shape
-split_shape above = record {
-  word = codes "split";
-  kinds = number_kind 0 greatest_rows ∷ [];
-  tail = naturals_tail greatest_edges greatest_edge;
-  make = λ values. split_line above values.0 values.1;
-}
+split_shape above =
+    shape_with (codes "split") (number_kind 0 greatest_rows ∷ []) (naturals_tail greatest_edges greatest_edge)
+    (λ values. split_line above values.0 values.1)
 
 abbrev pub prices_shape : Shape
-prices_shape = record {
-  word = codes "prices";
-  kinds = [];
-  tail = numbers_tail true greatest_rows greatest_number;
-  make = λ values. prices_line values;
-}
+prices_shape =
+    shape_with (codes "prices") [] (numbers_tail true greatest_rows greatest_number) (λ values. prices_line values)
 
 abbrev pub potentials_shape : Shape
-potentials_shape = record {
-  word = codes "potentials";
-  kinds = [];
-  tail = numbers_tail false greatest_rows greatest_number;
-  make = λ values. potentials_line values;
-}
+potentials_shape =
+    shape_with (codes "potentials") [] (numbers_tail false greatest_rows greatest_number)
+    (λ values. potentials_line values)
 
 abbrev pub done_shape : Shape
-done_shape = record { word = codes "done"; kinds = []; tail = no_tail; make = λ values. done_line }
+done_shape = shape_with (codes "done") [] no_tail (λ values. done_line)
 
 -- the ways to read a line where something is needed
 abbrev pub shapes_of : Need → List Shape

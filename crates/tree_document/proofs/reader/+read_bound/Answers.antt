@@ -3,8 +3,10 @@ use Rattle.tree_certificate.specs.declared.bound.Bound.TheVariants.{Split}
 use Rattle.tree_certificate.specs.BoundView.{bound_value}
 use Rattle.tree_document.specs.Document.{bound_lines}
 use Rattle.tree_document.specs.inside.Head.{bound_head_line}
-use Rattle.tree_document.specs.inside.Need.{follow, need_bound}
+use Rattle.tree_document.specs.Line.{potentials_line, prices_line}
+use Rattle.tree_document.specs.inside.Need.{follow, need_bound, need_potentials}
 use Rattle.tree_document.specs.inside.Verdict.{Took, next_needs}
+use Rattle.tree_document.proofs.Sequence.{last_stops, last_took}
 use Rattle.tree_document.proofs.Sides.{TookSplit, both_took, second_stops}
 use Rattle.tree_document.proofs.reader.+read_bound.Goals as goal
 
@@ -33,3 +35,26 @@ returns-in_ok-second-in-Split t c =
     (both_took c.args.under c.in-Split.colour c.in-Split.edges.items c.args.bytes.now c.in-Ok.both.1.now
     c.in-Ok-read_bound.both.1.now c.in-Ok-read_bound-2.both.1.now
     c.in-Ok-read_bound.both.0 c.in-Ok-read_bound-2.both.0 head c.in-Ok-read_bound.ensures c.in-Ok-read_bound-2.ensures)
+
+pub returns-in-Err-read_potentials : goal.returns-in-Err-read_potentials
+returns-in-Err-read_potentials t c =
+    let under = need_bound c.args.under in
+    last_stops (under ∷ []) (need_potentials ∷ []) (prices_line c.in-Prices.prices.items ∷ []) c.args.bytes.now
+    c.in-Ok.both.1.now c.in-Err-read_potentials.stop
+    (subst (λ line. Took (under ∷ []) (next_needs (follow under (bound_head_line c.args.under line)))
+    (bound_head_line c.args.under line ∷ []) c.args.bytes.now c.in-Ok.both.1.now) c.in-Prices.is c.in-Ok.ensures.taken)
+    c.in-Err-read_potentials.ensures.taken
+
+pub returns-in-Ok-read_potentials : goal.returns-in-Ok-read_potentials
+returns-in-Ok-read_potentials t c =
+    let under = need_bound c.args.under in
+    let cert = c.in-Ok-read_potentials.both.0 in
+    let same : c.in-Prices.prices.items ≡ cert.prices = sym c.in-Ok-read_potentials.ensures.prices in
+    subst (λ (lines : List _). Took (under ∷ []) [] lines c.args.bytes.now c.in-Ok-read_potentials.both.1.now)
+    (λ i. prices_line (same i) ∷ potentials_line cert.potentials ∷ [])
+    (last_took (under ∷ []) (need_potentials ∷ []) (prices_line c.in-Prices.prices.items ∷ [])
+    (potentials_line cert.potentials ∷ []) c.args.bytes.now c.in-Ok.both.1.now
+    c.in-Ok-read_potentials.both.1.now
+    (subst (λ line. Took (under ∷ []) (next_needs (follow under (bound_head_line c.args.under line)))
+    (bound_head_line c.args.under line ∷ []) c.args.bytes.now c.in-Ok.both.1.now) c.in-Prices.is c.in-Ok.ensures.taken)
+    c.in-Ok-read_potentials.ensures.taken)

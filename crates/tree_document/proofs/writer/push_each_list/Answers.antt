@@ -1,4 +1,4 @@
-use Rattle.std.proofs.Common.{◌++◌, arith}
+use Rattle.std.proofs.Common.{arith}
 use Rattle.tree_document.specs.Document.{list_lines, text_of}
 use Rattle.tree_document.proofs.TextOf.{one_more}
 use Rattle.tree_document.proofs.writer.push_each_list.Goals as goal
