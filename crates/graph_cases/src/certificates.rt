@@ -28,7 +28,7 @@ pub fn prices(rt: &HostRuntime, graph: &ColourGraph, case: &str) -> io::Result<(
 }
 
 /// Prices and potentials of a text, which a slash parts.
-fn prices_of(alloc: Global, text: &str) -> Result<Option<PriceCert>, AllocError> {
+pub fn prices_of(alloc: Global, text: &str) -> Result<Option<PriceCert>, AllocError> {
     let (prices, potentials) = text.split_once('/').unwrap_or((text, ""));
     Ok(PriceCert::new(numbers(alloc, prices)?, numbers(alloc, potentials)?))
 }
@@ -73,7 +73,7 @@ pub fn split(rt: &HostRuntime, graph: &ColourGraph, case: &str) -> io::Result<()
 }
 
 /// The bound of one split, whose colour and part stand in a text.
-fn split_of(
+pub fn split_of(
     alloc: Global,
     text: &str,
     first: PriceCert,

@@ -3,6 +3,7 @@
 #![tactic(auto)]
 
 mod certificates;
+mod gaps;
 mod graph_text;
 mod numbers;
 mod side_text;
@@ -42,6 +43,7 @@ fn answer_kind(rt: &HostRuntime, kind: &str, case: &str) -> io::Result<()> {
         "prices" => certificates::prices(rt, &graph, rest),
         "table" => certificates::table(rt, &graph, rest),
         "split" => certificates::split(rt, &graph, rest),
+        "gap" => gaps::gap(rt, graph, rest),
         _ => println!(rt; "  no such kind"),
     }
 }
