@@ -8,7 +8,7 @@ ghost use Rattle.certificate_checker.specs.inside.Enough.{AreGainsBelow, AreNoGa
 ghost use Rattle.certificate_checker.specs.inside.Low.{IsEarlier, IsFoundOfSizes, IsFoundOfVertex, IsFoundSet};
 
 use crate::colours::colours_of;
-use crate::gains::{copy_numbers, gather_gains, row_of};
+use crate::gains::{copy_numbers, gather_gains, numbers_of};
 use crate::low::Low;
 use crate::parts::least_enough;
 use colour_graph::{Colour, ColourGraph, VertexId};
@@ -31,7 +31,7 @@ pub(crate) fn first_low_of(
     ensures gains { length gains.new ≡ length gains.old }
     ensures found { IsFoundOfVertex graph.now (map (λ row. row.items) rows.now) vertex result }
 {
-    if row_of(rows, usize::from(vertex))[0] < 0 {
+    if numbers_of(rows, usize::from(vertex))[0] < 0 {
         return Some(Low {
             place: 0,
             needed: 0,
@@ -74,7 +74,7 @@ fn first_low_of_size(
     ensures gains { length gains.new ≡ length gains.old }
     ensures found { IsFoundOfSizes graph.now (map (λ row. row.items) rows.now) vertex size (size + 1) result }
 {
-    let row = row_of(rows, usize::from(vertex));
+    let row = numbers_of(rows, usize::from(vertex));
     let step = step_of(graph, vertex, size);
     copy_numbers(row, 2 * step, own);
     let colour = graph.colour_count() as usize - size;

@@ -30,14 +30,14 @@ pub(crate) fn fill_table(alloc: Global, graph: &ColourGraph) -> Result<Vec<Vec<i
     let mut vertex = count;
     while vertex > 0 {
         vertex -= 1;
-        let row = row_of(alloc, graph, &rows, vertex as VertexId, &mut gains)?;
+        let row = filled_row(alloc, graph, &rows, vertex as VertexId, &mut gains)?;
         rows[vertex] = row;
     }
     Ok(rows)
 }
 
 /// The numbers of a vertex, where the rows of all later ones are filled.
-fn row_of(
+fn filled_row(
     alloc: Global,
     graph: &ColourGraph,
     rows: &[Vec<i64>],
