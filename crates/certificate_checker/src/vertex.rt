@@ -103,8 +103,8 @@ fn step_of(graph: &ColourGraph, vertex: VertexId, size: usize) -> usize
     1 << (graph.colour_count() as usize - size - usize::from(graph.colour_of(vertex)) - 1)
 }
 
-/// The first number of a row that is too low, among those for a colour and sets of the colours behind it. Its loop stays
-/// in registers where it stands alone.
+/// The first number of a row that is too low, among those for a colour and sets of the colours behind it. Its loop
+/// stays in registers where it stands alone.
 #[inline(never)]
 fn first_low_set(row: &[i64], step: usize, own: &[i64], gains: &[i64], any: bool) -> Option<Low>
     requires few { length row.now ≤ 2 ^ greatest_colours }
@@ -136,8 +136,8 @@ fn first_low_set(row: &[i64], step: usize, own: &[i64], gains: &[i64], any: bool
     None
 }
 
-/// The first number of a row that is too low, among those for a colour that no edge goes to: there each is to be at least
-/// the one for the set without the colour.
+/// The first number of a row that is too low, among those for a colour that no edge goes to: there each is to be at
+/// least the one for the set without the colour.
 #[inline(never)]
 fn first_below(row: &[i64], step: usize, own: &[i64]) -> Option<Low>
     requires few { length row.now ≤ 2 ^ greatest_colours }

@@ -51,8 +51,8 @@ pub fn table(rt: &HostRuntime, graph: &ColourGraph, case: &str) -> io::Result<()
     }
 }
 
-/// Prints what is said of a split of all edges and an upper bound. The split stands behind it, the colour before the edges
-/// of its part; then the prices of the two sides.
+/// Prints what is said of a split of all edges and an upper bound. The split stands behind it, the colour before the
+/// edges of its part; then the prices of the two sides.
 pub fn split(rt: &HostRuntime, graph: &ColourGraph, case: &str) -> io::Result<()>
     requires { length graph.now.colours ≤ greatest_graph }
 {

@@ -1,5 +1,5 @@
-//! Gaps of trees whose edges all go from the root, in graphs of carbon: vertex `n` has `n` atoms less than the root, which
-//! has 14, and the colour of a vertex is the number of its list.
+//! Gaps of trees whose edges all go from the root, in graphs of carbon: vertex `n` has `n` atoms less than the root,
+//! which has 14, and the colour of a vertex is the number of its list.
 ghost use Rattle.std.specs.Prelude.{◌≡◌, ◌≤◌, ◌<◌, [], IfOk, IsTrue, length, slice_index_or};
 ghost use Rattle.std.specs.List.{All};
 ghost use Rattle.colour_graph.specs.Graph.{greatest_graph};

@@ -1,5 +1,5 @@
-//! Answers cases of graphs that are given as text, a line each. The kind of a case stands before its first bar, its graph
-//! behind that. Below each line stands what is answered.
+//! Answers cases of graphs that are given as text, a line each. The kind of a case stands before its first bar, its
+//! graph behind that. Below each line stands what is answered.
 #![tactic(auto)]
 
 mod certificates;
