@@ -1,5 +1,7 @@
--- Of cap_of: the greatest weight of the edges into a colour, looked at one after another, and what the colours add up to.
-use Rattle.std.proofs.Common.{◌≡◌, ◌+◌, ◌<◌, ◌≤◌, ◌↔◌, ◌∙◌, ◌⊎◌, inl, inr, ℕ, ℤ, pos, ◌+ℤ◌, ◌≤ℤ◌, ◌<ℤ◌, Bool, true, false, IsTrue, ◌&&◌, eqb, List, []}
+-- Of cap_of: the greatest weight of the edges into a colour, looked at one after another, and what the colours add up
+-- to.
+use Rattle.std.proofs.Common.{◌≡◌, ◌+◌, ◌<◌, ◌≤◌, ◌↔◌, ◌∙◌, ◌⊎◌, inl, inr, ℕ, ℤ, pos, ◌+ℤ◌, ◌≤ℤ◌, ◌<ℤ◌, Bool, true}
+use Rattle.std.proofs.Common.{false, IsTrue, ◌&&◌, eqb, List, []}
 use Rattle.std.proofs.Common.{◌∷◌, ◌++◌, length, cond, get_or, fold, map, ap, sym, refl, arith}
 use Rattle.std.proofs.lemmas.Bool.{and_parts, cases_eq, eqb-true, false≢true}
 use Rattle.std.proofs.lemmas.Int.{clamps, fold-int_max_bounds, ints}
@@ -25,7 +27,8 @@ best_into graph allowed colour = greatest (weights_of graph (edges_into graph al
 -- no edge of a set into a colour before a place weighs more
 pub record IsAbove (graph : Graph) (allowed : List Bool) (colour past : ℕ) (upper : ℤ) : Type 0 where
   pub zero : pos 0 ≤ℤ upper
-  pub each : (edge : ℕ) → edge < past → edge < length graph.edges → IsTrue (is_allowed allowed edge) → head_colour graph edge ≡ colour
+  pub each : (edge : ℕ) → edge < past → edge < length graph.edges → IsTrue (is_allowed allowed edge)
+      → head_colour graph edge ≡ colour
       → (edge_at graph edge).weight ≤ℤ upper
 
 -- the greatest weight of the edges of a set into a colour before a place, or 0
@@ -33,7 +36,8 @@ abbrev pub IsGreatest : Graph → List Bool → ℕ → ℕ → ℤ → Type 0
 IsGreatest graph allowed colour past most = (upper : ℤ) → (most ≤ℤ upper) ↔ IsAbove graph allowed colour past upper
 
 -- one more edge, which is in the set
-pub greatest-more : (graph : Graph) (allowed : List Bool) (colour first past edge : ℕ) (most more : ℤ) → AreInto graph colour first past
+pub greatest-more : (graph : Graph) (allowed : List Bool) (colour first past edge : ℕ) (most more : ℤ)
+    → AreInto graph colour first past
     → first ≤ edge → edge < past → is_allowed allowed edge ≡ true
     → IsGreatest graph allowed colour edge most
     → ((upper : ℤ) → (more ≤ℤ upper) ↔ ((most ≤ℤ upper) × ((edge_at graph edge).weight ≤ℤ upper)))
@@ -83,7 +87,10 @@ greatest-same graph allowed colour edge most out so_far upper = (to, back)
             choose (inr apart) = before.each other (omega (arith, at, apart)) in_graph has same
 
     back : IsAbove graph allowed colour (edge + 1) upper → most ≤ℤ upper
-    back above = (so_far upper).1 (record { zero = above.zero; each = λ other at. above.each other (omega (arith, at)) })
+    back above = (so_far upper).1 (record {
+      zero = above.zero;
+      each = λ other at. above.each other (omega (arith, at));
+    })
 
 -- the greater of two numbers is one of them
 pub record IsGreater (most weight more : ℤ) : Type 0 where
@@ -118,7 +125,8 @@ IsGreater-max most weight more is = choose (int_cmp weight most) (int_ranks weig
     choose Greater less same = second (omega (arith, ints)) same
 
 -- a bound of 0 and of each number bounds the greatest
-pub fold-low : (first upper : ℤ) (ns : List ℤ) → first ≤ℤ upper → All (λ n. n ≤ℤ upper) ns → fold int_max first ns ≤ℤ upper
+pub fold-low : (first upper : ℤ) (ns : List ℤ) → first ≤ℤ upper → All (λ n. n ≤ℤ upper) ns
+    → fold int_max first ns ≤ℤ upper
 fold-low first upper [] low each = low
 fold-low first upper (n ∷ ns) low each =
     fold-low (int_max first n) upper ns (greater first n upper low (All-head (λ m. m ≤ℤ upper) n ns each))
@@ -133,7 +141,8 @@ same_number a b one other = omega (arith, ints)
 pub self : (a : ℤ) → a ≤ℤ a
 self a = omega (arith, ints)
 
-pub greatest-last : (graph : Graph) (allowed : List Bool) (colour first past : ℕ) (most : ℤ) → AreInto graph colour first past
+pub greatest-last : (graph : Graph) (allowed : List Bool) (colour first past : ℕ) (most : ℤ)
+    → AreInto graph colour first past
     → IsGreatest graph allowed colour past most → most ≡ best_into graph allowed colour
 greatest-last graph allowed colour first past most into is = same_number most best low high
   where
@@ -149,11 +158,13 @@ greatest-last graph allowed colour first past most into is = same_number most be
     low : most ≤ℤ best
     low = (is best).1 (record { zero = bounds.0; each = each })
       where
-        each : (edge : ℕ) → edge < past → edge < length graph.edges → IsTrue (is_allowed allowed edge) → head_colour graph edge ≡ colour
+        each : (edge : ℕ) → edge < past → edge < length graph.edges → IsTrue (is_allowed allowed edge)
+            → head_colour graph edge ≡ colour
             → (edge_at graph edge).weight ≤ℤ best
         each edge below within has same =
             All-at (λ (weight : ℤ). weight ≤ℤ best) (edge_at graph edge).weight (weights_of graph edges) bounds.1
-            (IsIn-map (λ edge. (edge_at graph edge).weight) edge edges (rw same at (IsIn-edges_into graph allowed edge within has)))
+            (IsIn-map (λ edge. (edge_at graph edge).weight) edge edges
+            (rw same at (IsIn-edges_into graph allowed edge within has)))
 
     high : best ≤ℤ most
     high = fold-low (pos 0) most (weights_of graph edges) ((is most).0 (self most)).zero
@@ -162,7 +173,8 @@ greatest-last graph allowed colour first past most into is = same_number most be
         goes : ℕ → Bool
         goes edge = is_allowed allowed edge && eqb (head_colour graph edge) colour
 
-        at_each : (edge place count : ℕ) → edge ≡ 0 + place → place < count → count ≡ length graph.edges → goes edge ≡ true
+        at_each : (edge place count : ℕ) → edge ≡ 0 + place → place < count → count ≡ length graph.edges
+            → goes edge ≡ true
             → (edge_at graph edge).weight ≤ℤ most
         at_each edge place count at few all passes =
             let within : edge < length graph.edges = omega arith in
@@ -170,7 +182,8 @@ greatest-last graph allowed colour first past most into is = same_number most be
             let same : head_colour graph edge ≡ colour = eqb-true (head_colour graph edge) colour parts.1 in
             ((is most).0 (self most)).each edge (((into.members edge within).1 same).1) within parts.0 same
 
-        in_range : All (λ edge. goes edge ≡ true → (edge_at graph edge).weight ≤ℤ most) (range_with_len 0 (length graph.edges))
+        in_range : All (λ edge. goes edge ≡ true → (edge_at graph edge).weight ≤ℤ most)
+            (range_with_len 0 (length graph.edges))
         in_range k d within =
             let few : k < length graph.edges = omega (arith, length-range_with_len 0 (length graph.edges)) in
             at_each (get_or (range_with_len 0 (length graph.edges)) k d) k (length graph.edges)
@@ -178,7 +191,8 @@ greatest-last graph allowed colour first past most into is = same_number most be
 
         each : All (λ edge. (edge_at graph edge).weight ≤ℤ most) edges
         each k d within =
-            All-filter goes (λ edge. goes edge ≡ true → (edge_at graph edge).weight ≤ℤ most) (range_with_len 0 (length graph.edges))
+            All-filter goes (λ edge. goes edge ≡ true → (edge_at graph edge).weight ≤ℤ most)
+            (range_with_len 0 (length graph.edges))
             in_range k d within
             (filter_passes goes (range_with_len 0 (length graph.edges)) k d within)
 

@@ -1,10 +1,12 @@
--- Of HasColour: the sets with a colour stand in blocks of as many as its place says, and between two blocks as many stand
--- that do without it.
-use Rattle.std.proofs.Common.{◌≡◌, ◌∙◌, ◌⊎◌, inl, inr, ◌+◌, ◌-◌, ◌*◌, ◌/◌, ◌%◌, ◌^◌, ◌<◌, ◌≤◌, ℕ, suc, ap, arith, mul_comm, pow-suc}
+-- Of HasColour: the sets with a colour stand in blocks of as many as its place says, and between two blocks as many
+-- stand that do without it.
+use Rattle.std.proofs.Common.{◌≡◌, ◌∙◌, ◌⊎◌, inl, inr, ◌+◌, ◌-◌, ◌*◌, ◌/◌, ◌%◌, ◌^◌, ◌<◌, ◌≤◌, ℕ, suc, ap, arith}
+use Rattle.std.proofs.Common.{mul_comm, pow-suc}
 use Rattle.std.specs.Int.{IsPowerOfTwo}
 use Rattle.std.proofs.lemmas.Bool.{cases_lt}
 use Rattle.std.proofs.lemmas.Nat.{div-add-mod', pow-add, row_fits}
-use Rattle.std.proofs.Math.Nat.{add-mod_right, div-eq_of_lt, div-eq_of_lt-le, lt_of_mul-lt-mul_right, mod-eq_of_lt, mul-mod_right, pow-le-pow_right}
+use Rattle.std.proofs.Math.Nat.{add-mod_right, div-eq_of_lt, div-eq_of_lt-le, lt_of_mul-lt-mul_right, mod-eq_of_lt}
+use Rattle.std.proofs.Math.Nat.{mul-mod_right, pow-le-pow_right}
 use Rattle.certificate_checker.specs.inside.Enough.{HasColour}
 
 pub first_block : (colour : ℕ) → 0 < colour → colour % (2 * colour) ≡ colour
@@ -18,7 +20,8 @@ pub block_within : (base colour count : ℕ) → base % (2 * colour) ≡ colour 
     → (colour ≤ base) × (base + colour ≤ count)
 block_within base colour count block whole within = one (2 * colour) (omega arith) block whole
   where
-    one : (double : ℕ) → colour + colour ≡ double → base % double ≡ colour → count % double ≡ 0 → (colour ≤ base) × (base + colour ≤ count)
+    one : (double : ℕ) → colour + colour ≡ double → base % double ≡ colour → count % double ≡ 0
+        → (colour ≤ base) × (base + colour ≤ count)
     one double is start end =
         let base_is = div-add-mod' base double in
         let count_is = div-add-mod' count double in
@@ -33,12 +36,14 @@ none_before place colour within has = none (place / colour) (div-eq_of_lt within
     none : (n : ℕ) → n ≡ 0 → n % 2 ≡ 1 → ⊥
     none n is odd = omega arith
 
-none_between : (base place colour : ℕ) → base % (2 * colour) ≡ colour → base + colour ≤ place → place < base + 2 * colour
+none_between : (base place colour : ℕ) → base % (2 * colour) ≡ colour → base + colour ≤ place
+    → place < base + 2 * colour
     → HasColour place colour → ⊥
 none_between base place colour block from past has =
     let sum = blocks half colour in
     let next = more (2 * (half + 1)) colour in
-    even (place / colour) (div-eq_of_lt-le {k = 2 * (half + 1)} colour (omega (arith, start, sum)) (omega (arith, start, sum, next))) has
+    even (place / colour) (div-eq_of_lt-le {k = 2 * (half + 1)} colour (omega (arith, start, sum))
+    (omega (arith, start, sum, next))) has
   where
     half : ℕ
     half = base / (2 * colour)
@@ -60,9 +65,11 @@ pub blocks-none : (P : ℕ → Type 0) (colour place : ℕ) → place < colour �
 blocks-none P colour place within has = absurd (none_before place colour within has)
 
 pub blocks-more : (P : ℕ → Type 0) (base colour : ℕ) → base % (2 * colour) ≡ colour
-    → ((place : ℕ) → place < base → HasColour place colour → P place) → ((place : ℕ) → base ≤ place → place < base + colour → P place)
+    → ((place : ℕ) → place < base → HasColour place colour → P place)
+    → ((place : ℕ) → base ≤ place → place < base + colour → P place)
     → (place : ℕ) → place < base + 2 * colour → HasColour place colour → P place
-blocks-more P base colour block before here place within has = choose (cases_lt place base) (cases_lt place (base + colour))
+blocks-more P base colour block before here place within has =
+    choose (cases_lt place base) (cases_lt place (base + colour))
   where
     choose : (place < base) ⊎ (base ≤ place) → (place < base + colour) ⊎ (base + colour ≤ place) → P place
     choose (inl earlier) other = before place earlier has

@@ -1,5 +1,6 @@
 -- Colours of a set that are marked to be kept or left out, one colour after another, and the place of what is kept.
-use Rattle.std.proofs.Common.{◌≡◌, ◌+◌, ◌*◌, ◌/◌, ◌%◌, ◌^◌, ◌<◌, ◌≤◌, ℕ, zero, suc, Bool, true, false, ◌&&◌, IsTrue, List, [], ◌∷◌, ◌++◌, length, ap, refl, sym, subst, ◌∙◌, arith, bit_and, pow-suc}
+use Rattle.std.proofs.Common.{◌≡◌, ◌+◌, ◌*◌, ◌/◌, ◌%◌, ◌^◌, ◌<◌, ◌≤◌, ℕ, zero, suc, Bool, true, false, ◌&&◌, IsTrue}
+use Rattle.std.proofs.Common.{List, [], ◌∷◌, ◌++◌, length, ap, refl, sym, subst, ◌∙◌, arith, bit_and, pow-suc}
 use Rattle.std.specs.Int.{bit_at}
 use Rattle.std.specs.Int.Bits.{and_zero_l, and_zero_r}
 use Rattle.std.proofs.lemmas.Nat.{and_block}
@@ -19,7 +20,8 @@ cut colour [] = []
 cut zero (here ∷ set) = false ∷ set
 cut (suc colour) (here ∷ set) = here ∷ cut colour set
 
-pub place-cut : (colour : ℕ) (set : List Bool) → has colour set ≡ true → place_of set ≡ place_of (cut colour set) + 2 ^ colour
+pub place-cut : (colour : ℕ) (set : List Bool) → has colour set ≡ true
+    → place_of set ≡ place_of (cut colour set) + 2 ^ colour
 place-cut colour [] is = (cc)
 place-cut zero (true ∷ set) is = omega arith
 place-cut zero (false ∷ set) is = (cc)
@@ -45,7 +47,8 @@ in_place (suc colour) (true ∷ set) is =
     half : (n : ℕ) → (1 + 2 * n) / 2 ≡ n
     half n = omega arith
 in_place (suc colour) (false ∷ set) is =
-    bit_at-suc (place_of (false ∷ set)) colour ∙ ap (λ n. bit_at n colour) (half (place_of set)) ∙ in_place colour set is
+    bit_at-suc (place_of (false ∷ set)) colour ∙ ap (λ n. bit_at n colour) (half (place_of set))
+    ∙ in_place colour set is
   where
     half : (n : ℕ) → (2 * n) / 2 ≡ n
     half n = omega arith
@@ -69,7 +72,8 @@ cut-part zero (taken ∷ part) (here ∷ set) is = (λ same. same, is.1)
 cut-part (suc colour) (taken ∷ part) (here ∷ set) is = (is.0, cut-part colour part set is.1)
 
 -- what is left of a set without a part of it gets the colour that the part does without
-pub has-left : (colour : ℕ) (part set : List Bool) → IsPartOf part set → has colour part ≡ true → has colour (without set (cut colour part)) ≡ true
+pub has-left : (colour : ℕ) (part set : List Bool) → IsPartOf part set → has colour part ≡ true
+    → has colour (without set (cut colour part)) ≡ true
 has-left colour [] set is taken_is = (cc)
 has-left colour (taken ∷ part) [] is taken_is = absurd is
 has-left zero (true ∷ part) (true ∷ set) is taken_is = refl
@@ -130,7 +134,8 @@ bit-and true false = refl
 bit-and false true = refl
 bit-and false false = refl
 
-place-kept : (set marks : List Bool) → place_of set < 2 ^ length marks → place_of (kept set marks) ≡ bit_and (place_of set) (place_of marks)
+place-kept : (set marks : List Bool) → place_of set < 2 ^ length marks
+    → place_of (kept set marks) ≡ bit_and (place_of set) (place_of marks)
 place-kept [] marks within = sym (and_zero_l (place_of marks))
 place-kept (here ∷ set) [] within = none (place_of (here ∷ set)) within ∙ sym (and_zero_r (place_of (here ∷ set)))
   where
@@ -152,7 +157,8 @@ pub record AreMarked (Holds : List Bool → List Bool → Type 0) (count colour 
   pub place : place_of marks ≡ mask
   pub holds : (set : List Bool) → place_of set < count → Holds set (kept set marks)
 
-pub marked-none : (Holds : List Bool → List Bool → Type 0) (count : ℕ) → ((set : List Bool) → Holds set set) → AreMarked Holds count 1 0
+pub marked-none : (Holds : List Bool → List Bool → Type 0) (count : ℕ) → ((set : List Bool) → Holds set set)
+    → AreMarked Holds count 1 0
 marked-none Holds count all = record {
   marks = [];
   looked_at = refl;
@@ -162,7 +168,12 @@ marked-none Holds count all = record {
 
 push-pow : (marks : List Bool) (mark : Bool) → 2 ^ length (marks ++ mark ∷ []) ≡ 2 ^ length marks * 2
 push-pow [] mark = refl
-push-pow (first ∷ marks) mark = omega (arith, push-pow marks mark, pow-suc 2 (length marks), pow-suc 2 (length (marks ++ mark ∷ [])))
+push-pow (first ∷ marks) mark = omega (
+  arith,
+  push-pow marks mark,
+  pow-suc 2 (length marks),
+  pow-suc 2 (length (marks ++ mark ∷ [])),
+)
 
 push-more : (marks : List Bool) → place_of (marks ++ true ∷ []) ≡ place_of marks + 2 ^ length marks
 push-more [] = refl
@@ -175,7 +186,8 @@ push-cut (true ∷ marks) = omega (arith, push-cut marks)
 push-cut (false ∷ marks) = omega (arith, push-cut marks)
 
 -- a colour more that is kept
-pub marked-more : (Holds : List Bool → List Bool → Type 0) (count colour mask : ℕ) → AreMarked Holds count colour mask → AreMarked Holds count (colour * 2) (mask + colour)
+pub marked-more : (Holds : List Bool → List Bool → Type 0) (count colour mask : ℕ) → AreMarked Holds count colour mask
+    → AreMarked Holds count (colour * 2) (mask + colour)
 marked-more Holds count colour mask are = record {
   marks = are.marks ++ true ∷ [];
   looked_at = push-pow are.marks true ∙ ap (λ n. n * 2) are.looked_at;
@@ -185,21 +197,25 @@ marked-more Holds count colour mask are = record {
 
 -- a colour more that is left out
 pub marked-cut : (Holds : List Bool → List Bool → Type 0) (count colour mask : ℕ)
-    → ((set part : List Bool) (at : ℕ) → 2 ^ at ≡ colour → place_of set < count → IsPartOf part set → Holds set part → Holds set (cut at part))
+    → ((set part : List Bool) (at : ℕ) → 2 ^ at ≡ colour → place_of set < count → IsPartOf part set → Holds set part
+    → Holds set (cut at part))
     → AreMarked Holds count colour mask → AreMarked Holds count (colour * 2) mask
 marked-cut Holds count colour mask step are = record {
   marks = are.marks ++ false ∷ [];
   looked_at = push-pow are.marks false ∙ ap (λ n. n * 2) are.looked_at;
   place = push-cut are.marks ∙ are.place;
   holds = λ set within. subst (λ s. Holds set s) (sym (kept-cut set are.marks))
-      (step set (kept set are.marks) (length are.marks) are.looked_at within (IsPartOf-kept set are.marks) (are.holds set within));
+      (step set (kept set are.marks) (length are.marks) are.looked_at within (IsPartOf-kept set are.marks)
+      (are.holds set within));
 }
 
 -- where all colours are marked, what is kept stands at a place
-pub marked-place : (Holds : List Bool → List Bool → Type 0) (count colour mask : ℕ) (are : AreMarked Holds count colour mask) → count ≤ colour
+pub marked-place : (Holds : List Bool → List Bool → Type 0) (count colour mask : ℕ)
+    (are : AreMarked Holds count colour mask) → count ≤ colour
     → (set : List Bool) → place_of set < count → place_of (kept set are.marks) ≡ bit_and (place_of set) mask
 marked-place Holds count colour mask are all set within =
-    place-kept set are.marks (small (place_of set) count colour (2 ^ length are.marks) within all are.looked_at) ∙ ap (λ n. bit_and (place_of set) n) are.place
+    place-kept set are.marks (small (place_of set) count colour (2 ^ length are.marks) within all are.looked_at)
+    ∙ ap (λ n. bit_and (place_of set) n) are.place
   where
     small : (place count colour power : ℕ) → place < count → count ≤ colour → power ≡ colour → place < power
     small place count colour power within all is = omega arith

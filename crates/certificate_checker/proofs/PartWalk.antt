@@ -1,13 +1,16 @@
 -- The least number that is enough for a set beside one smaller colour, by the walk over the parts of the set.
-use Rattle.std.proofs.Common.{◌≡◌, ◌⊎◌, inl, inr, ◌+◌, ◌-◌, ◌<◌, ◌≤◌, ◌↔◌, ℕ, ℤ, pos, negsuc, ◌+ℤ◌, ◌≤ℤ◌, ◌<ℤ◌, Bool, true, false, List, [], ◌∷◌, ap, sym, subst, ◌∙◌, arith, rules, bit_and, SFits, w32, w64}
+use Rattle.std.proofs.Common.{◌≡◌, ◌⊎◌, inl, inr, ◌+◌, ◌-◌, ◌<◌, ◌≤◌, ◌↔◌, ℕ, ℤ, pos, negsuc, ◌+ℤ◌, ◌≤ℤ◌, ◌<ℤ◌, Bool}
+use Rattle.std.proofs.Common.{true, false, List, [], ◌∷◌, ap, sym, subst, ◌∙◌, arith, rules, bit_and, SFits, w32, w64}
 use lib.Signed.{le_z, lt_z}
 use Rattle.colour_graph.specs.Graph.{IsScore}
 use Rattle.std.proofs.lemmas.Bool.{cases_eq, cases_lt}
 use Rattle.std.proofs.lemmas.Int.{ints}
 use Rattle.std.proofs.lemmas.Nat.{and_le_l}
 use Rattle.tree_certificate.specs.ColourSet.{IsPartOf, place_of, without}
-use Rattle.certificate_checker.specs.inside.Enough.{AreNoGains, AreNumbersBelow, AreUseful, IsEnough, IsEnoughAbove, IsGain, IsNumber, IsRaised, PartAt, UsefulPart, number_in}
-use Rattle.tree_certificate.proofs.SetParts.{IsPartOf-before, IsPartOf-nothing, IsPartOf-self, before, le-before, nothing_of, place-before, place-nothing, place-without}
+use Rattle.certificate_checker.specs.inside.Enough.{AreNoGains, AreNumbersBelow, AreUseful, IsEnough, IsEnoughAbove}
+use Rattle.certificate_checker.specs.inside.Enough.{IsGain, IsNumber, IsRaised, PartAt, UsefulPart, number_in}
+use Rattle.tree_certificate.proofs.SetParts.{IsPartOf-before, IsPartOf-nothing, IsPartOf-self, before, le-before}
+use Rattle.tree_certificate.proofs.SetParts.{nothing_of, place-before, place-nothing, place-without}
 
 -- Numbers and gains fit their type.
 fits : (z : ℤ) → negsuc 1999999999999999 ≤ℤ z → z ≤ℤ pos 1000000000100000 → SFits w64 z
@@ -27,18 +30,21 @@ SFits-number number is = fits number (low number is.not_below) (high number is.n
     high z is = omega (arith, ints)
 
 -- the same under other names
-pub raised-as : (more more' most most' gain gain' rest rest' : ℤ) → more' ≡ more → most ≡ most' → gain ≡ gain' → rest ≡ rest' → IsRaised more most gain rest → IsRaised more' most' gain' rest'
+pub raised-as : (more more' most most' gain gain' rest rest' : ℤ) → more' ≡ more → most ≡ most' → gain ≡ gain'
+    → rest ≡ rest' → IsRaised more most gain rest → IsRaised more' most' gain' rest'
 raised-as more more' most most' gain gain' rest rest' same_more same_most same_gain same_rest is =
     rw (same_more, ← same_most, ← same_gain, ← same_rest) is
 
 pub PartAt-self : (set : List Bool) (place : ℕ) → place_of set ≡ place → PartAt set place
 PartAt-self set place at = record { part = set; is_part = IsPartOf-self set; at_place = at }
 
-abbrev pub PartAt-before : (set : List Bool) (whole place : ℕ) → place_of set ≡ whole → PartAt set place → 0 < place → PartAt set (bit_and (place - 1) whole)
+abbrev pub PartAt-before : (set : List Bool) (whole place : ℕ) → place_of set ≡ whole → PartAt set place → 0 < place
+    → PartAt set (bit_and (place - 1) whole)
 PartAt-before set whole place at it some = record {
   part = before set it.part;
   is_part = IsPartOf-before set it.part it.is_part;
-  at_place = sym (place-before set it.part it.is_part (rw it.at_place some)) ∙ ap (λ p. bit_and (p - 1) (place_of set)) it.at_place ∙ ap (λ w. bit_and (place - 1) w) at;
+  at_place = sym (place-before set it.part it.is_part (rw it.at_place some))
+      ∙ ap (λ p. bit_and (p - 1) (place_of set)) it.at_place ∙ ap (λ w. bit_and (place - 1) w) at;
 }
 
 -- a part of a part
@@ -53,10 +59,13 @@ IsPartOf-part (here ∷ set) (kept ∷ useful) (taken ∷ part) useful_is is =
 
 -- what a part and the rest of the set give, by places
 sum_at : (numbers gains : List ℤ) (set part : List Bool) (place : ℕ) → IsPartOf part set → place_of part ≡ place
-    → (number_in gains (place_of part) +ℤ number_in numbers (place_of (without set part))) ≡ (number_in gains place +ℤ number_in numbers (place_of set - place))
+    → (number_in gains (place_of part) +ℤ number_in numbers (place_of (without set part)))
+    ≡ (number_in gains place +ℤ number_in numbers (place_of set - place))
 sum_at numbers gains set part place is at =
-    let left : place_of (without set part) ≡ place_of set - place = rest (place_of part) (place_of (without set part)) (place_of set) place (place-without set part is) at in
-    ap (λ p. number_in gains p +ℤ number_in numbers (place_of (without set part))) at ∙ ap (λ p. number_in gains place +ℤ number_in numbers p) left
+    let left : place_of (without set part) ≡ place_of set - place =
+    rest (place_of part) (place_of (without set part)) (place_of set) place (place-without set part is) at in
+    ap (λ p. number_in gains p +ℤ number_in numbers (place_of (without set part))) at
+    ∙ ap (λ p. number_in gains place +ℤ number_in numbers p) left
   where
     rest : (part other whole place : ℕ) → part + other ≡ whole → part ≡ place → other ≡ whole - place
     rest part other whole place is at = omega arith
@@ -65,7 +74,8 @@ minus_zero : (n : ℕ) → n - 0 ≡ n
 minus_zero n = omega arith
 
 -- before the walk: the empty part alone
-pub enough-first : (numbers gains : List ℤ) (set : List Bool) (whole parts : ℕ) (it : UsefulPart numbers gains set parts) (most : ℤ) → place_of set ≡ whole
+pub enough-first : (numbers gains : List ℤ) (set : List Bool) (whole parts : ℕ)
+    (it : UsefulPart numbers gains set parts) (most : ℤ) → place_of set ≡ whole
     → IsRaised most (number_in numbers whole) (number_in gains 0) (number_in numbers whole)
     → (upper : ℤ) → (most ≤ℤ upper) ↔ IsEnoughAbove numbers gains set it.part parts upper
 enough-first numbers gains set whole parts it most at is upper = (to, from)
@@ -74,7 +84,9 @@ enough-first numbers gains set whole parts it most at is upper = (to, from)
     to low = record {
       left_out = rw at (((is upper).0 low).0);
       empty = rw at (((is upper).0 low).1);
-      taken = λ part is_part above. absurd (not_above (place_of part) (place_of (without it.part part)) (place_of it.part) parts (place-without it.part part is_part) it.at_place above);
+      taken = λ part is_part above. absurd
+          (not_above (place_of part) (place_of (without it.part part)) (place_of it.part) parts
+          (place-without it.part part is_part) it.at_place above);
     }
       where
         not_above : (part other all whole : ℕ) → part + other ≡ all → all ≡ whole → whole < part → ⊥
@@ -84,7 +96,8 @@ enough-first numbers gains set whole parts it most at is upper = (to, from)
     from enough = (is upper).1 (rw (← at) enough.left_out, rw (← at) enough.empty)
 
 -- one step of the walk
-pub enough-more : (numbers gains : List ℤ) (set : List Bool) (whole parts place : ℕ) (it : UsefulPart numbers gains set parts) (most more : ℤ) → place_of set ≡ whole
+pub enough-more : (numbers gains : List ℤ) (set : List Bool) (whole parts place : ℕ)
+    (it : UsefulPart numbers gains set parts) (most more : ℤ) → place_of set ≡ whole
     → PartAt it.part place → 0 < place
     → ((upper : ℤ) → (most ≤ℤ upper) ↔ IsEnoughAbove numbers gains set it.part place upper)
     → IsRaised more most (number_in gains place) (number_in numbers (whole - place))
@@ -110,20 +123,25 @@ enough-more numbers gains set whole parts place it most more at this some so_far
             → (number_in gains (place_of part) +ℤ number_in numbers (place_of (without set part))) ≤ℤ upper
         taken part is_part above = choose (cases_lt place (place_of part))
           where
-            here : place_of part ≡ place → (number_in gains (place_of part) +ℤ number_in numbers (place_of (without set part))) ≤ℤ upper
-            here same = rw (sum_at numbers gains set part place (IsPartOf-part set it.part part it.is_part is_part) same) (rw at (((is upper).0 low).1))
+            here : place_of part ≡ place
+                → (number_in gains (place_of part) +ℤ number_in numbers (place_of (without set part))) ≤ℤ upper
+            here same = rw (sum_at numbers gains set part place
+                (IsPartOf-part set it.part part it.is_part is_part) same) (rw at (((is upper).0 low).1))
 
             not_between : place_of part < place → ⊥
             not_between low' =
                 let low_part : place_of part < place_of this.part = rw this.at_place low' in
-                let bound : place_of part ≤ place_of (before it.part this.part) = le-before it.part part this.part is_part this.is_part low_part in
+                let bound : place_of part ≤ place_of (before it.part this.part) =
+                le-before it.part part this.part is_part this.is_part low_part in
                 omega (arith, bound, above, next)
 
-            choose : (place < place_of part) ⊎ (place_of part ≤ place) → (number_in gains (place_of part) +ℤ number_in numbers (place_of (without set part))) ≤ℤ upper
+            choose : (place < place_of part) ⊎ (place_of part ≤ place)
+                → (number_in gains (place_of part) +ℤ number_in numbers (place_of (without set part))) ≤ℤ upper
             choose (inl above') = before_this.taken part is_part above'
             choose (inr low') = pick (cases_eq (place_of part) place)
               where
-                pick : (place_of part ≡ place) ⊎ (place_of part ≡ place → ⊥) → (number_in gains (place_of part) +ℤ number_in numbers (place_of (without set part))) ≤ℤ upper
+                pick : (place_of part ≡ place) ⊎ (place_of part ≡ place → ⊥)
+                    → (number_in gains (place_of part) +ℤ number_in numbers (place_of (without set part))) ≤ℤ upper
                 pick (inl same) = here same
                 pick (inr apart) = absurd (not_between (omega (arith, low', apart)))
 
@@ -134,11 +152,14 @@ enough-more numbers gains set whole parts place it most more at this some so_far
         empty = enough.empty;
         taken = λ part is_part above. enough.taken part is_part (omega (arith, above, below));
       }),
-      rw (← at) (rw (sum_at numbers gains set this.part place (IsPartOf-part set it.part this.part it.is_part this.is_part) this.at_place) at (enough.taken this.part this.is_part (rw this.at_place below))),
+      rw (← at) (rw (sum_at numbers gains set this.part place
+          (IsPartOf-part set it.part this.part it.is_part this.is_part) this.at_place) at
+          (enough.taken this.part this.is_part (rw this.at_place below))),
     )
 
 -- after the walk
-pub enough-last : (numbers gains : List ℤ) (set : List Bool) (parts place : ℕ) (it : UsefulPart numbers gains set parts) (most : ℤ) → place ≡ 0
+pub enough-last : (numbers gains : List ℤ) (set : List Bool) (parts place : ℕ) (it : UsefulPart numbers gains set parts)
+    (most : ℤ) → place ≡ 0
     → ((upper : ℤ) → (most ≤ℤ upper) ↔ IsEnoughAbove numbers gains set it.part place upper)
     → (upper : ℤ) → (most ≤ℤ upper) ↔ IsEnough numbers gains set upper
 enough-last numbers gains set parts place it most done is upper = (to, from)
@@ -146,12 +167,18 @@ enough-last numbers gains set parts place it most done is upper = (to, from)
     to : most ≤ℤ upper → IsEnough numbers gains set upper
     to low = it.enough upper (record { left_out = ((is upper).0 low).left_out; taken = taken })
       where
-        taken : (part : List Bool) → IsPartOf part it.part → (number_in gains (place_of part) +ℤ number_in numbers (place_of (without set part))) ≤ℤ upper
+        taken : (part : List Bool) → IsPartOf part it.part
+            → (number_in gains (place_of part) +ℤ number_in numbers (place_of (without set part))) ≤ℤ upper
         taken part is_part = choose (cases_lt 0 (place_of part))
           where
-            choose : (0 < place_of part) ⊎ (place_of part ≤ 0) → (number_in gains (place_of part) +ℤ number_in numbers (place_of (without set part))) ≤ℤ upper
+            choose : (0 < place_of part) ⊎ (place_of part ≤ 0)
+                → (number_in gains (place_of part) +ℤ number_in numbers (place_of (without set part))) ≤ℤ upper
             choose (inl some) = ((is upper).0 low).taken part is_part (rw done some)
-            choose (inr none) = rw (sum_at numbers gains set part 0 (IsPartOf-part set it.part part it.is_part is_part) (omega (arith, none)), minus_zero (place_of set)) (((is upper).0 low).empty)
+            choose (inr none) = rw (
+              sum_at numbers gains set part 0 (IsPartOf-part set it.part part it.is_part is_part)
+                  (omega (arith, none)),
+              minus_zero (place_of set),
+            ) (((is upper).0 low).empty)
 
     from : IsEnough numbers gains set upper → most ≤ℤ upper
     from enough = (is upper).1 (record {
@@ -164,30 +191,38 @@ enough-last numbers gains set parts place it most done is upper = (to, from)
         nothing = record { part = nothing_of set; is_part = IsPartOf-nothing set; at_place = place-nothing set }
 
         empty : (number_in gains 0 +ℤ number_in numbers (place_of set)) ≤ℤ upper
-        empty = rw (sum_at numbers gains set nothing.part 0 nothing.is_part nothing.at_place, minus_zero (place_of set)) at (enough.taken nothing.part nothing.is_part)
+        empty = rw (
+          sum_at numbers gains set nothing.part 0 nothing.is_part nothing.at_place,
+          minus_zero (place_of set),
+        ) at (enough.taken nothing.part nothing.is_part)
 
 -- the part of a set that a head may need
-abbrev pub part_at : (numbers gains : List ℤ) (count useful whole : ℕ) → AreUseful numbers gains count useful → whole < count
+abbrev pub part_at : (numbers gains : List ℤ) (count useful whole : ℕ) → AreUseful numbers gains count useful
+    → whole < count
     → (set : List Bool) → place_of set ≡ whole → UsefulPart numbers gains set (bit_and whole useful)
 part_at numbers gains count useful whole are within set at =
     subst (λ w. UsefulPart numbers gains set (bit_and w useful)) at (are set (rw at within))
 
 -- Where nothing is gained, the number of the set is enough.
-pub enough-none : (own gains : List ℤ) (set : List Bool) (whole count : ℕ) → place_of set ≡ whole → whole < count → AreNumbersBelow own count → AreNoGains gains count
+pub enough-none : (own gains : List ℤ) (set : List Bool) (whole count : ℕ) → place_of set ≡ whole → whole < count
+    → AreNumbersBelow own count → AreNoGains gains count
     → (upper : ℤ) → (number_in own whole ≤ℤ upper) ↔ IsEnough own gains set upper
 enough-none own gains set whole count at within near none upper = (to, λ enough. rw (← at) enough.left_out)
   where
     to : number_in own whole ≤ℤ upper → IsEnough own gains set upper
     to low = record { left_out = rw at low; taken = taken }
       where
-        taken : (part : List Bool) → IsPartOf part set → (number_in gains (place_of part) +ℤ number_in own (place_of (without set part))) ≤ℤ upper
+        taken : (part : List Bool) → IsPartOf part set
+            → (number_in gains (place_of part) +ℤ number_in own (place_of (without set part))) ≤ℤ upper
         taken part is_part =
             let sum = place-without set part is_part in
             rw (none (place_of part) (omega (arith, sum, at)))
             (below (number_in own (place_of (without set part))) (number_in own whole) upper
-            ((near (place_of (without set part)) (omega (arith, sum, at))).not_above) ((near whole within).not_below) low)
+            ((near (place_of (without set part)) (omega (arith, sum, at))).not_above)
+            ((near whole within).not_below) low)
           where
-            below : (rest number upper : ℤ) → rest ≤ℤ pos 1000000000000000 → negsuc 999999999999999 ≤ℤ number → number ≤ℤ upper → (negsuc 1999999999999999 +ℤ rest) ≤ℤ upper
+            below : (rest number upper : ℤ) → rest ≤ℤ pos 1000000000000000 → negsuc 999999999999999 ≤ℤ number
+                → number ≤ℤ upper → (negsuc 1999999999999999 +ℤ rest) ≤ℤ upper
             below rest number upper high low is = omega (arith, ints)
 
 -- A test of two numbers, by what they are.
@@ -217,7 +252,8 @@ SFits-score score is =
     search rules
 
 pub SFits-total : (score number : ℤ) → IsScore score → IsNumber number → SFits w64 (score +ℤ number)
-SFits-total score number is near = fits (score +ℤ number) (low score number is.not_below near.not_below) (high score number is.not_above near.not_above)
+SFits-total score number is near = fits (score +ℤ number) (low score number is.not_below near.not_below)
+    (high score number is.not_above near.not_above)
   where
     low : (a b : ℤ) → negsuc 99999 ≤ℤ a → negsuc 999999999999999 ≤ℤ b → negsuc 1999999999999999 ≤ℤ (a +ℤ b)
     low a b one other = omega (arith, ints)

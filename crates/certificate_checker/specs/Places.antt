@@ -35,7 +35,7 @@ ComesBefore vertex place other later = (vertex < other) ⊎ ((vertex ≡ other) 
 
 -- The first number of a table that is not high enough, by vertex and then by place, with what it is and what it is to
 -- be at least.
-pub record IsRowPlace (graph : Graph) (rows : List (List ℤ)) (vertex place : ℕ) (held needed : ℤ) : Type 0 where
+pub record IsNumberPlace (graph : Graph) (rows : List (List ℤ)) (vertex place : ℕ) (held needed : ℤ) : Type 0 where
   pub fits : FitsGraph graph rows
   pub in_graph : vertex < length graph.colours
   pub in_row : place < row_length graph vertex
@@ -58,7 +58,7 @@ abbrev pub IsTablePlace : Graph → List (List ℤ) → ℤ → Place → Type 0
 IsTablePlace graph rows upper (TableColours colours) =
     (greatest_colours < colour_count graph) × (colours ≡ colour_count graph)
 IsTablePlace graph rows upper (TableShape vertex) = IsShapePlace graph rows vertex
-IsTablePlace graph rows upper (TableRow vertex place held needed) = IsRowPlace graph rows vertex place held needed
+IsTablePlace graph rows upper (TableRow vertex place held needed) = IsNumberPlace graph rows vertex place held needed
 IsTablePlace graph rows upper (TableTotal total) = IsTotalPlace graph rows upper total
 IsTablePlace graph rows upper place = ⊥
 

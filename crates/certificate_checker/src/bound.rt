@@ -14,8 +14,8 @@ use colour_graph::{Allowed, ColourGraph, EdgeId};
 use std::alloc::{AllocError, Global};
 use tree_certificate::Bound;
 
-/// Whether prices and splits hold for an upper bound of a graph of at most `GREATEST_GRAPH` vertices, or the first place where they
-/// fail.
+/// Whether prices and splits hold for an upper bound of a graph of at most `GREATEST_GRAPH` vertices, or the first
+/// place where they fail.
 pub(crate) fn check_bound(
     alloc: Global,
     graph: &ColourGraph,

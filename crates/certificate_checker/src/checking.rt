@@ -16,8 +16,8 @@ use colour_graph::ColourGraph;
 use std::alloc::{AllocError, Global};
 use tree_certificate::{Cert, what_holds_bounds_every_tree};
 
-/// Whether a certificate holds for an upper bound of a graph of at most `GREATEST_GRAPH` vertices, or the first place where it
-/// fails. One that holds shows that no colourful list of edges scores more.
+/// Whether a certificate holds for an upper bound of a graph of at most `GREATEST_GRAPH` vertices, or the first place
+/// where it fails. One that holds shows that no colourful list of edges scores more.
 pub fn check_cert(
     alloc: Global,
     graph: &ColourGraph,

@@ -1,4 +1,5 @@
-//! Which of the colours behind one matter for a vertex's numbers: in most graphs few do, and only these are walked over.
+//! Which of the colours behind one matter for a vertex's numbers: in most graphs few do, and only these are walked
+//! over.
 ghost use Rattle.std.specs.Prelude.{◌≡◌, ◌≤◌, ◌<◌, ◌+◌, ◌*◌, ◌%◌, ◌≤ℤ◌, IsTrue, length};
 ghost use Rattle.std.specs.Int.{IsPowerOfTwo};
 ghost use Rattle.certificate_checker.specs.inside.Enough.{AddsNothing, AddsNothingFrom, AreGainsBelow};
@@ -90,7 +91,8 @@ fn is_no_gain(gain: i64, gain_without: i64, number: i64, number_without: i64) ->
     gain <= gain_without && number_without <= number
 }
 
-/// Whether no number for a set with a colour, given by the set of it alone, is greater than the one for the set without.
+/// Whether no number for a set with a colour, given by the set of it alone, is greater than the one for the set
+/// without.
 #[inline(never)]
 fn raises_nothing(numbers: &[i64], colour: usize) -> bool
     requires blocks { (0 < colour) × (length numbers.now % (2 * colour) ≡ 0) }

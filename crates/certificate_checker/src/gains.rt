@@ -12,7 +12,7 @@ use colour_graph::{Colour, ColourGraph, VertexId};
 const NOTHING: i64 = -2_000_000_000_000_000;
 
 /// The numbers of a vertex.
-pub(crate) fn row_of(rows: &[Vec<i64>], vertex: usize) -> &[i64]
+pub(crate) fn numbers_of(rows: &[Vec<i64>], vertex: usize) -> &[i64]
     requires { vertex < length rows.now }
     ensures { result.now ≡ row_at (map (λ row. row.items) rows.now) vertex }
 {
@@ -57,7 +57,7 @@ pub(crate) fn gather_gains(
     for place in first..past {
         let edge = graph.edge_at(place);
         if edge.tail == vertex {
-            let numbers = row_of(rows, usize::from(edge.head));
+            let numbers = numbers_of(rows, usize::from(edge.head));
             if any {
                 raise_gains(gains, edge.weight, numbers);
             } else {

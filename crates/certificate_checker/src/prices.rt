@@ -14,8 +14,8 @@ use crate::needed::gather_needed;
 use colour_graph::{Allowed, Colour, ColourGraph, GREATEST_GRAPH};
 use tree_certificate::{Place, PriceCert, what_prices_hold_bounds_every_tree};
 
-/// Whether prices and potentials hold on a set of edges of a graph of at most `GREATEST_GRAPH` vertices, and what they say of it is
-/// at most an upper bound. Then no colourful list of edges of the set scores more than that.
+/// Whether prices and potentials hold on a set of edges of a graph of at most `GREATEST_GRAPH` vertices, and what they
+/// say of it is at most an upper bound. Then no colourful list of edges of the set scores more than that.
 pub fn check_prices(graph: &ColourGraph, allowed: &Allowed, cert: &PriceCert, upper: i64) -> bool
     requires vertices { length graph.now.colours ≤ greatest_graph }
     requires set { IsSetOf graph.now allowed.now }

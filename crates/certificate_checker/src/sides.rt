@@ -88,7 +88,7 @@ pub fn keep_only(
         ≡ taken.old.items ++ edges_into graph.now (leaving allowed.old part.now) colour) }
 {
     take_part(allowed, part);
-    take_row(graph, allowed, colour, taken)?;
+    take_edges_into(graph, allowed, colour, taken)?;
     put_part(allowed, part);
     Ok(())
 }
@@ -114,7 +114,7 @@ pub fn put_part(allowed: &mut Allowed, part: &[EdgeId])
 }
 
 /// Takes the edges into a colour out of a set, and puts their numbers behind those that were taken out before.
-fn take_row(
+fn take_edges_into(
     graph: &ColourGraph,
     allowed: &mut Allowed,
     colour: Colour,

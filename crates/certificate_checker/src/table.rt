@@ -7,7 +7,7 @@ ghost use Rattle.tree_certificate.specs.Value.{a_table};
 ghost use Rattle.certificate_checker.specs.Places.{IsShapePlace, IsTablePlace, IsVerdict};
 ghost use Rattle.certificate_checker.specs.inside.Low.{AreHigh, AreHighBefore, IsLowOfVertex};
 
-use crate::gains::row_of;
+use crate::gains::numbers_of;
 use crate::low::Low;
 use crate::verdict::Verdict;
 use crate::vertex::{first_low_of, sets_of};
@@ -74,7 +74,7 @@ fn has_row(graph: &ColourGraph, rows: &[Vec<i64>], vertex: VertexId) -> bool
 {
     let place = usize::from(vertex);
     place < rows.len()
-        && row_of(rows, place).len()
+        && numbers_of(rows, place).len()
             == 1 << (graph.colour_count() - u32::from(graph.colour_of(vertex)))
 }
 
@@ -109,7 +109,7 @@ fn place_of(graph: &ColourGraph, rows: &[Vec<i64>], vertex: VertexId, low: Low) 
     requires low { IsLowOfVertex graph.now (map (λ row. row.items) rows.now) vertex low }
     ensures { (upper : ℤ) → IsTablePlace graph.now (map (λ row. row.items) rows.now) upper result }
 {
-    let held = row_of(rows, usize::from(vertex))[low.place];
+    let held = numbers_of(rows, usize::from(vertex))[low.place];
     Place::TableRow(u32::from(vertex), low.place as u32, held, low.needed)
 }
 
@@ -120,6 +120,6 @@ fn total_of(graph: &ColourGraph, rows: &[Vec<i64>]) -> i64
     requires numbers { AreNumbers (map (λ row. row.items) rows.now) }
     ensures { result ≡ table_total graph.now (map (λ row. row.items) rows.now) }
 {
-    let row = row_of(rows, 0);
+    let row = numbers_of(rows, 0);
     i64::from(graph.root_score()) + row[row.len() - 1]
 }

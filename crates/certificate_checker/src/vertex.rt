@@ -8,7 +8,7 @@ ghost use Rattle.certificate_checker.specs.inside.Enough.{AreGainsBelow, AreNoGa
 ghost use Rattle.certificate_checker.specs.inside.Low.{IsEarlier, IsFoundOfSizes, IsFoundOfVertex, IsFoundSet};
 
 use crate::colours::colours_of;
-use crate::gains::{copy_numbers, gather_gains, row_of};
+use crate::gains::{copy_numbers, gather_gains, numbers_of};
 use crate::low::Low;
 use crate::parts::least_enough;
 use colour_graph::{Colour, ColourGraph, VertexId};
@@ -31,7 +31,7 @@ pub(crate) fn first_low_of(
     ensures gains { length gains.new ≡ length gains.old }
     ensures found { IsFoundOfVertex graph.now (map (λ row. row.items) rows.now) vertex result }
 {
-    if row_of(rows, usize::from(vertex))[0] < 0 {
+    if numbers_of(rows, usize::from(vertex))[0] < 0 {
         return Some(Low {
             place: 0,
             needed: 0,
@@ -74,7 +74,7 @@ fn first_low_of_size(
     ensures gains { length gains.new ≡ length gains.old }
     ensures found { IsFoundOfSizes graph.now (map (λ row. row.items) rows.now) vertex size (size + 1) result }
 {
-    let row = row_of(rows, usize::from(vertex));
+    let row = numbers_of(rows, usize::from(vertex));
     let step = step_of(graph, vertex, size);
     copy_numbers(row, 2 * step, own);
     let colour = graph.colour_count() as usize - size;
@@ -103,8 +103,8 @@ fn step_of(graph: &ColourGraph, vertex: VertexId, size: usize) -> usize
     1 << (graph.colour_count() as usize - size - usize::from(graph.colour_of(vertex)) - 1)
 }
 
-/// The first number of a row that is too low, among those for a colour and sets of the colours behind it. Its loop stays
-/// in registers where it stands alone.
+/// The first number of a row that is too low, among those for a colour and sets of the colours behind it. Its loop
+/// stays in registers where it stands alone.
 #[inline(never)]
 fn first_low_set(row: &[i64], step: usize, own: &[i64], gains: &[i64], any: bool) -> Option<Low>
     requires few { length row.now ≤ 2 ^ greatest_colours }
@@ -136,8 +136,8 @@ fn first_low_set(row: &[i64], step: usize, own: &[i64], gains: &[i64], any: bool
     None
 }
 
-/// The first number of a row that is too low, among those for a colour that no edge goes to: there each is to be at least
-/// the one for the set without the colour.
+/// The first number of a row that is too low, among those for a colour that no edge goes to: there each is to be at
+/// least the one for the set without the colour.
 #[inline(never)]
 fn first_below(row: &[i64], step: usize, own: &[i64]) -> Option<Low>
     requires few { length row.now ≤ 2 ^ greatest_colours }

@@ -14,7 +14,8 @@ use Rattle.entry_checker.specs.EntryPlaces.{CanBeAdded}
 use Rattle.entry_checker.specs.inside.Marks.{AreMarks, IsTaken, is_marked}
 
 -- one more place is marked
-set_mark : (P Q : Type 0) (marks : List Bool) (mark place : ℕ) → mark < length marks → (is_marked marks place ≡ true) ↔ P
+set_mark : (P Q : Type 0) (marks : List Bool) (mark place : ℕ) → mark < length marks
+    → (is_marked marks place ≡ true) ↔ P
     → (Q → P ⊎ (place ≡ mark)) → (P → Q) → (place ≡ mark → Q) → (is_marked (set marks mark true) place ≡ true) ↔ Q
 set_mark P Q marks mark place within is split old new = (to (cases_eq place mark), from (cases_eq place mark))
   where
@@ -23,7 +24,8 @@ set_mark P Q marks mark place within is split old new = (to (cases_eq place mark
     to (inr apart) marked = old (is.0 (sym (get_or-set_other marks mark place true false apart) ∙ marked))
 
     from : (place ≡ mark) ⊎ (place ≡ mark → ⊥) → Q → is_marked (set marks mark true) place ≡ true
-    from (inl here) holds = ap (λ p. is_marked (set marks mark true) p) here ∙ get_or-set_same marks mark true false within
+    from (inl here) holds = ap (λ p. is_marked (set marks mark true) p) here
+        ∙ get_or-set_same marks mark true false within
     from (inr apart) holds = get_or-set_other marks mark place true false apart ∙ before (split holds)
       where
         before : P ⊎ (place ≡ mark) → is_marked marks place ≡ true
@@ -31,7 +33,8 @@ set_mark P Q marks mark place within is split old new = (to (cases_eq place mark
         before (inr here) = absurd (apart here)
 
 -- what one more edge adds to the values of the first ones
-value-more : (value : ℕ → ℕ) (edges : List ℕ) (count place : ℕ) → count < length edges → Contains (map value (take (count + 1) edges)) place
+value-more : (value : ℕ → ℕ) (edges : List ℕ) (count place : ℕ) → count < length edges
+    → Contains (map value (take (count + 1) edges)) place
     → Contains (map value (take count edges)) place ⊎ (place ≡ value (get_or edges count 0))
 value-more value edges count place within has =
     choose (Contains-append_cases (map value (take count edges)) (value (get_or edges count 0) ∷ []) place
@@ -46,20 +49,26 @@ value-more value edges count place within has =
     choose (inl before) = inl before
     choose (inr here) = inr (last here)
 
-value-before : (value : ℕ → ℕ) (edges : List ℕ) (count place : ℕ) → count < length edges → Contains (map value (take count edges)) place
+value-before : (value : ℕ → ℕ) (edges : List ℕ) (count place : ℕ) → count < length edges
+    → Contains (map value (take count edges)) place
     → Contains (map value (take (count + 1) edges)) place
 value-before value edges count place within has =
-    rw (map_more value edges count 0 within) (Contains-append_left (map value (take count edges)) (value (get_or edges count 0) ∷ [])
+    rw (map_more value edges count 0 within)
+    (Contains-append_left (map value (take count edges)) (value (get_or edges count 0) ∷ [])
     place has)
 
-value-here : (value : ℕ → ℕ) (edges : List ℕ) (count place : ℕ) → count < length edges → place ≡ value (get_or edges count 0)
+value-here : (value : ℕ → ℕ) (edges : List ℕ) (count place : ℕ) → count < length edges
+    → place ≡ value (get_or edges count 0)
     → Contains (map value (take (count + 1) edges)) place
 value-here value edges count place within is =
     rw (map_more value edges count 0 within)
-    (Contains-append_right (map value (take count edges)) (value (get_or edges count 0) ∷ []) place (0, omega arith, sym is))
+    (Contains-append_right (map value (take count edges)) (value (get_or edges count 0) ∷ []) place
+    (0, omega arith, sym is))
 
-pub AreMarks-more : (graph : Graph) (edges : List ℕ) (count head colour : ℕ) (reached taken : List Bool) → count < length edges
-    → head ≡ (edge_at graph (get_or edges count 0)).head → colour ≡ head_colour graph (get_or edges count 0) → head < length reached
+pub AreMarks-more : (graph : Graph) (edges : List ℕ) (count head colour : ℕ) (reached taken : List Bool)
+    → count < length edges
+    → head ≡ (edge_at graph (get_or edges count 0)).head → colour ≡ head_colour graph (get_or edges count 0)
+    → head < length reached
     → colour < length taken
     → AreMarks graph (take count edges) reached taken → AreMarks graph (take (count + 1) edges) (set reached head true)
     (set taken colour true)
@@ -69,14 +78,17 @@ AreMarks-more graph edges count head colour reached taken within head_is colour_
     head_value : ℕ → ℕ
     head_value edge = (edge_at graph edge).head
 
-    vertices : (vertex : ℕ) → vertex < length (set reached head true) → (is_marked (set reached head true) vertex ≡ true)
+    vertices : (vertex : ℕ) → vertex < length (set reached head true)
+        → (is_marked (set reached head true) vertex ≡ true)
         ↔ IsReached graph (take (count + 1) edges) vertex
     vertices vertex at =
-        set_mark (IsReached graph (take count edges) vertex) (IsReached graph (take (count + 1) edges) vertex) reached head vertex head_in
+        set_mark (IsReached graph (take count edges) vertex)
+        (IsReached graph (take (count + 1) edges) vertex) reached head vertex head_in
         (are.vertices vertex (omega (arith, at, length-set reached head true))) split before
         (λ here. at_head (value-here head_value edges count vertex within (here ∙ head_is)))
       where
-        split : IsReached graph (take (count + 1) edges) vertex → IsReached graph (take count edges) vertex ⊎ (vertex ≡ head)
+        split : IsReached graph (take (count + 1) edges) vertex
+            → IsReached graph (take count edges) vertex ⊎ (vertex ≡ head)
         split (at_root is) = inl (at_root is)
         split (at_head has) = choose (value-more head_value edges count vertex within has)
           where
@@ -92,7 +104,8 @@ AreMarks-more graph edges count head colour reached taken within head_is colour_
     colours : (other : ℕ) → other < length (set taken colour true) → (is_marked (set taken colour true) other ≡ true)
         ↔ IsTaken graph (take (count + 1) edges) other
     colours other at =
-        set_mark (IsTaken graph (take count edges) other) (IsTaken graph (take (count + 1) edges) other) taken colour other colour_in
+        set_mark (IsTaken graph (take count edges) other) (IsTaken graph (take (count + 1) edges) other) taken colour
+        other colour_in
         (are.colours other (omega (arith, at, length-set taken colour true))) split
         (value-before (head_colour graph) edges count other within)
         (λ here. value-here (head_colour graph) edges count other within (here ∙ colour_is))
@@ -100,7 +113,8 @@ AreMarks-more graph edges count head colour reached taken within head_is colour_
         split : IsTaken graph (take (count + 1) edges) other → IsTaken graph (take count edges) other ⊎ (other ≡ colour)
         split has = choose (value-more (head_colour graph) edges count other within has)
           where
-            choose : Contains (map (head_colour graph) (take count edges)) other ⊎ (other ≡ head_colour graph (get_or edges count 0))
+            choose : Contains (map (head_colour graph) (take count edges)) other
+                ⊎ (other ≡ head_colour graph (get_or edges count 0))
                 → IsTaken graph (take count edges) other ⊎ (other ≡ colour)
             choose (inl was) = inl was
             choose (inr here) = inr (here ∙ sym colour_is)
@@ -124,7 +138,8 @@ free-taken graph edges colour = (to, from)
     )
 
 -- by the marks, an edge can be added
-pub can_by_marks : (graph : Graph) (edges : List ℕ) (reached taken : List Bool) (edge : ℕ) → AreMarks graph edges reached taken
+pub can_by_marks : (graph : Graph) (edges : List ℕ) (reached taken : List Bool) (edge : ℕ)
+    → AreMarks graph edges reached taken
     → edge < length graph.edges
     → (edge_at graph edge).tail < length reached → head_colour graph edge < length taken
     → ((is_marked reached (edge_at graph edge).tail ≡ true) × (is_marked taken (head_colour graph edge) ≡ false) ×
@@ -153,16 +168,19 @@ can_by_marks graph edges reached taken edge are within tail_in colour_in = (to, 
       can.gain,
     )
       where
-        not_taken : (is_marked taken (head_colour graph edge) ≡ true) ⊎ (is_marked taken (head_colour graph edge) ≡ false)
+        not_taken : (is_marked taken (head_colour graph edge) ≡ true)
+            ⊎ (is_marked taken (head_colour graph edge) ≡ false)
             → is_marked taken (head_colour graph edge) ≡ false
         not_taken (inr is) = is
         not_taken (inl is) = absurd ((free-taken graph edges (head_colour graph edge)).0 can.free
             ((are.colours (head_colour graph edge) colour_in).0 is))
 
 -- the same, as an edge and its colour were read
-pub adds_is : (graph : Graph) (edges : List ℕ) (reached taken : List Bool) (place colour : ℕ) (edge : Edge) (adds : Bool)
+pub adds_is : (graph : Graph) (edges : List ℕ) (reached taken : List Bool) (place colour : ℕ) (edge : Edge)
+    (adds : Bool)
     → AreMarks graph edges reached taken
-    → place < length graph.edges → edge ≡ edge_at graph place → colour ≡ colour_of graph edge.head → edge.tail < length reached
+    → place < length graph.edges → edge ≡ edge_at graph place → colour ≡ colour_of graph edge.head
+    → edge.tail < length reached
     → colour < length taken
     → (IsTrue adds ↔ ((is_marked reached edge.tail ≡ true) × (is_marked taken colour ≡ false) × (pos 0 <ℤ edge.weight)))
     → IsTrue adds ↔ CanBeAdded graph edges place
@@ -179,7 +197,8 @@ adds_is graph edges reached taken place colour edge adds are within read named t
         (rw colour_is at colour_in)
 
 -- one more edge that cannot be added
-pub none-more : (graph : Graph) (edges : List ℕ) (place : ℕ) → ((earlier : ℕ) → earlier < place → CanBeAdded graph edges earlier → ⊥)
+pub none-more : (graph : Graph) (edges : List ℕ) (place : ℕ)
+    → ((earlier : ℕ) → earlier < place → CanBeAdded graph edges earlier → ⊥)
     → (CanBeAdded graph edges place → ⊥)
     → (earlier : ℕ) → earlier < place + 1 → CanBeAdded graph edges earlier → ⊥
 none-more graph edges place before here earlier within can = choose (cases_eq earlier place)

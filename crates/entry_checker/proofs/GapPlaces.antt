@@ -13,13 +13,15 @@ use Rattle.tree_entry.specs.declared.place.EntryPlace.{EntryPlace}
 use Rattle.tree_entry.specs.declared.place.EntryPlace.TheVariants.{Splits, Loose, Slack, Wasted, Decided}
 
 -- what holds of all items holds of the one at a place
-all_at : {X : Type 0} (Is : X → Type 0) (items : List X) (place : ℕ) (item : X) → All Is items → slice_get items place ≡ Some item
+all_at : {X : Type 0} (Is : X → Type 0) (items : List X) (place : ℕ) (item : X) → All Is items
+    → slice_get items place ≡ Some item
     → Is item
 all_at Is items place item all is =
     subst Is (get_or_from_slice_get items place item item is) (all place item (slice_get_within items place item is))
 
 -- leaves have one greatest total
-one_greatest : (graph : Graph) (leaves : List Leaf) (one other : ℤ) → IsGreatestTotal graph leaves one → IsGreatestTotal graph leaves other
+one_greatest : (graph : Graph) (leaves : List Leaf) (one other : ℤ) → IsGreatestTotal graph leaves one
+    → IsGreatestTotal graph leaves other
     → one ≡ other
 one_greatest graph leaves one other first second =
     same (price_total graph first.leaf.cert) (price_total graph second.leaf.cert) one other first.reached second.reached
@@ -32,7 +34,8 @@ one_greatest graph leaves one other first second =
 pub no_gap_place : (graph : Graph) (bound : BoundValue) (score upper : ℤ) (budget : ℕ) (place : EntryPlace)
     → IsGapPlace graph bound score upper budget place → Spent graph bound score upper budget → ⊥
 no_gap_place graph bound score upper budget (Splits splits) is spent = is.1 spent.splits
-no_gap_place graph bound score upper budget (Loose greatest) is spent = is.2 (one_greatest graph _ greatest upper is.1 spent.greatest)
+no_gap_place graph bound score upper budget (Loose greatest) is spent =
+    is.2 (one_greatest graph _ greatest upper is.1 spent.greatest)
 no_gap_place graph bound score upper budget (Slack node) is spent =
     is.1.wrong (all_at (IsTight graph) (all_leaves graph bound) is.1.place is.1.node spent.tight is.1.is_node)
 no_gap_place graph bound score upper budget (Wasted node) is spent =

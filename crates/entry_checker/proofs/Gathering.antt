@@ -1,5 +1,6 @@
 -- Of Gathered: what is found among the nodes of a bound with one more.
-use Rattle.std.proofs.Common.{◌≡◌, ◌≤◌, ℕ, zero, suc, ℤ, ◌≤ℤ◌, ◌<ℤ◌, Bool, true, false, List, [], ◌∷◌, ◌++◌, Option, None, Some, length, refl, arith}
+use Rattle.std.proofs.Common.{◌≡◌, ◌≤◌, ℕ, zero, suc, ℤ, ◌≤ℤ◌, ◌<ℤ◌, Bool, true, false, List, [], ◌∷◌, ◌++◌, Option}
+use Rattle.std.proofs.Common.{None, Some, length, refl, arith}
 use lib.Signed.{le_z}
 use Rattle.std.proofs.lemmas.Int.{ints}
 use Rattle.std.proofs.Math.Seq.{take-append_seam}
@@ -10,7 +11,8 @@ use Rattle.std.specs.List.{slice_get}
 use Rattle.entry_checker.specs.inside.Gathered.{IsFound, found_with}
 
 -- the element at a place stays there where the list grows, and a new one stands at its end
-pub slice_get-kept : {X : Type 0} (xs ys : List X) (place : ℕ) (x : X) → slice_get xs place ≡ Some x → slice_get (xs ++ ys) place ≡ Some x
+pub slice_get-kept : {X : Type 0} (xs ys : List X) (place : ℕ) (x : X) → slice_get xs place ≡ Some x
+    → slice_get (xs ++ ys) place ≡ Some x
 slice_get-kept [] ys place x is = absurd (differ is)
   where
     differ : slice_get [] place ≡ Some x → ⊥
@@ -23,7 +25,8 @@ slice_get-last [] x = refl
 slice_get-last (first ∷ xs) x = slice_get-last xs x
 
 -- one more node
-pub found_node : {X : Type 0} (number_of : X → ℕ) (Is : X → Type 0) (nodes : List X) (node : X) (found : Option ℕ) (holds : Bool)
+pub found_node : {X : Type 0} (number_of : X → ℕ) (Is : X → Type 0) (nodes : List X) (node : X) (found : Option ℕ)
+    (holds : Bool)
     → (holds ≡ true → Is node) → (holds ≡ false → ¬ Is node) → IsFound number_of Is nodes found
     → IsFound number_of Is (nodes ++ node ∷ []) (found_with found holds (number_of node))
 found_node number_of Is nodes node (Some first) holds goes fails is = record {

@@ -11,9 +11,11 @@ use Rattle.colour_graph.specs.Colourful.{IsColourful}
 use Rattle.colour_graph.specs.Graph.{Graph, IsGraph, edge_at, head_colour}
 use Rattle.colour_graph.proofs.Order.{colour-le_vertex}
 
-pub colourful-few : (graph : Graph) (edges : List ℕ) → IsGraph graph → IsColourful graph edges → length edges ≤ length graph.colours
+pub colourful-few : (graph : Graph) (edges : List ℕ) → IsGraph graph → IsColourful graph edges
+    → length edges ≤ length graph.colours
 colourful-few graph edges is colourful =
-    rw (length-map edges (head_colour graph)) at (length-le_from_distinct_below (map (head_colour graph) edges) (length graph.colours)
+    rw (length-map edges (head_colour graph)) at
+    (length-le_from_distinct_below (map (head_colour graph) edges) (length graph.colours)
     (IsDistinct-from_AllPairs unsigned_Decides (map (head_colour graph) edges) apart) below)
   where
     apart : AllPairs (λ x y. x ≢ y) (map (head_colour graph) edges)
@@ -23,9 +25,11 @@ colourful-few graph edges is colourful =
         (colourful.one_of_a_colour i j 0 before last)
 
     below : (colour : ℕ) → list_any (eqb colour) (map (head_colour graph) edges) ≡ true → colour < length graph.colours
-    below colour any = found (Contains-from_any (λ x y same. eqb-true x y same) colour (map (head_colour graph) edges) any)
+    below colour any = found (Contains-from_any (λ x y same. eqb-true x y same) colour
+        (map (head_colour graph) edges) any)
       where
-        found : (k : ℕ) × (k < length (map (head_colour graph) edges)) × (get_or (map (head_colour graph) edges) k colour ≡ colour)
+        found : (k : ℕ) × (k < length (map (head_colour graph) edges))
+            × (get_or (map (head_colour graph) edges) k colour ≡ colour)
             → colour < length graph.colours
         found (k, within, same) =
             let in_list : k < length edges = omega (arith, within, length-map edges (head_colour graph)) in

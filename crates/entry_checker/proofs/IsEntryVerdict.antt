@@ -16,7 +16,8 @@ use Rattle.entry_checker.specs.EntryPlaces.{CertIsRight, IsEntryPlace, IsEntryVe
 use Rattle.certificate_checker.specs.Places.{IsPlace}
 use Rattle.tree_certificate.specs.declared.place.Place.{Place}
 use Rattle.tree_entry.specs.declared.place.EntryPlace.{EntryPlace}
-use Rattle.tree_entry.specs.declared.place.EntryPlace.TheVariants.{Rows, NotColourful, NotMaximal, Score, Upper, Mark, Cert}
+use Rattle.tree_entry.specs.declared.place.EntryPlace.TheVariants.{Rows, NotColourful, NotMaximal, Score, Upper, Mark}
+use Rattle.tree_entry.specs.declared.place.EntryPlace.TheVariants.{Cert}
 use Rattle.tree_entry.specs.declared.place.EntryPlace.TheVariants.{FewColours}
 use Rattle.entry_checker.specs.declared.verdict.EntryVerdict.{EntryVerdict}
 use Rattle.entry_checker.specs.declared.verdict.EntryVerdict.TheVariants.{Right, Wrong}
@@ -28,7 +29,8 @@ differ : Optimal ≡ Gap → ⊥
 differ same = cc
 
 -- a gap of a graph with few colours does not stand
-no_few_gap : (graph : Graph) (tree : TreeValue) (budget colours : ℕ) (its : mark.Mark) → its ≡ Gap → colours ≡ colour_count graph
+no_few_gap : (graph : Graph) (tree : TreeValue) (budget colours : ℕ) (its : mark.Mark) → its ≡ Gap
+    → colours ≡ colour_count graph
     → colours ≤ greatest_colours → GapFits graph tree budget its → ⊥
 no_few_gap graph tree budget colours Optimal is same few fits = absurd (differ is)
 no_few_gap graph tree budget colours Gap is same few fits = absurd (omega (arith, same, few, fits.0))
@@ -37,18 +39,21 @@ no_few_gap graph tree budget colours Gap is same few fits = absurd (omega (arith
 no_wasted : (graph : Graph) (tree : TreeValue) (budget : ℕ) (place : EntryPlace) (cert : CertValue)
     → IsSpent graph cert tree.score tree.upper budget → IsLatePlace graph tree budget cert place → ⊥
 no_wasted graph tree budget place (a_table rows) spent is = spent
-no_wasted graph tree budget place (a_bound bound) spent is = no_gap_place graph bound tree.score tree.upper budget place is spent
+no_wasted graph tree budget place (a_bound bound) spent is =
+    no_gap_place graph bound tree.score tree.upper budget place is spent
 
 no_late_place : (graph : Graph) (tree : TreeValue) (budget : ℕ) (place : EntryPlace) (its : mark.Mark) → its ≡ Gap
     → GapFits graph tree budget its → IsLatePlace graph tree budget tree.cert place → ⊥
 no_late_place graph tree budget place Optimal gap fits is = absurd (differ gap)
 no_late_place graph tree budget place Gap gap fits is = no_wasted graph tree budget place tree.cert fits.1 is
 
-gap_fits : (graph : Graph) (tree : TreeValue) (budget : ℕ) (its : mark.Mark) → its ≡ Optimal → GapFits graph tree budget its
+gap_fits : (graph : Graph) (tree : TreeValue) (budget : ℕ) (its : mark.Mark) → its ≡ Optimal
+    → GapFits graph tree budget its
 gap_fits graph tree budget its is = subst (λ m. GapFits graph tree budget m) (sym is) tt
 
 -- where all is looked at, an optimal tree is right
-pub optimal_is_right : (built : LossGraphValue) (tree : TreeValue) (budget : ℕ) → CertIsRight built tree → tree.mark ≡ Optimal
+pub optimal_is_right : (built : LossGraphValue) (tree : TreeValue) (budget : ℕ) → CertIsRight built tree
+    → tree.mark ≡ Optimal
     → EntryIsRight built tree budget
 optimal_is_right built tree budget right is = record {
   rows = right.before.before.before.before.before.rows;
@@ -79,7 +84,8 @@ spent_is_right built tree budget right is many spent = record {
 no_cert_place : (graph : Graph) (cert : CertValue) (upper : ℤ) (place : Place) → IsPlace graph cert upper place
     → CertHolds graph cert upper → ⊥
 no_cert_place graph (a_table rows) upper place is holds = no_place graph rows upper place is holds
-no_cert_place graph (a_bound bound) upper place is holds = no_bound_place graph (all_edges graph) bound upper 0 place is holds
+no_cert_place graph (a_bound bound) upper place is holds =
+    no_bound_place graph (all_edges graph) bound upper 0 place is holds
 
 no_gain : (weight : ℤ) → pos 0 <ℤ weight → weight ≤ℤ pos 0 → ⊥
 no_gain weight gain low = omega (arith, ints)
@@ -99,10 +105,12 @@ no_entry_place built tree budget (NotMaximal edge) is right = no_gain _ is.1.can
 no_entry_place built tree budget (Score score) is right = is.2 (right.score ∙ sym is.1)
 no_entry_place built tree budget (Upper cap) is right = not_capped cap tree.upper _ is.1 is.2 right.capped
 no_entry_place built tree budget Mark is right = is.1 right.mark
-no_entry_place built tree budget (Cert place) is right = no_cert_place built.graph tree.cert tree.upper place is.1 right.cert
+no_entry_place built tree budget (Cert place) is right =
+    no_cert_place built.graph tree.cert tree.upper place is.1 right.cert
 no_entry_place built tree budget (FewColours colours) is right =
     no_few_gap built.graph tree budget colours tree.mark is.1 is.2 is.3 right.gap
-no_entry_place built tree budget place is right = no_late_place built.graph tree budget place tree.mark is.1 right.gap is.3
+no_entry_place built tree budget place is right =
+    no_late_place built.graph tree budget place tree.mark is.1 right.gap is.3
 
 pub exactly_entry : (built : LossGraphValue) (tree : TreeValue) (budget : ℕ) (verdict : EntryVerdict)
     → IsEntryVerdict built tree budget verdict → (verdict ≡ Right) ↔ EntryIsRight built tree budget
@@ -113,7 +121,8 @@ exactly_entry built tree budget (Wrong place) is =
     not_right : Wrong place ≡ Right → ⊥
     not_right same = cc
 
-pub exactly_entry_from : {E : Type 0} (built : LossGraphValue) (tree : TreeValue) (budget : ℕ) (result : Result EntryVerdict E)
+pub exactly_entry_from : {E : Type 0} (built : LossGraphValue) (tree : TreeValue) (budget : ℕ)
+    (result : Result EntryVerdict E)
     → IfOk result (λ verdict. IsEntryVerdict built tree budget verdict)
     → IfOk result (λ verdict. (verdict ≡ Right) ↔ EntryIsRight built tree budget)
 exactly_entry_from built tree budget result is =

@@ -1,5 +1,6 @@
 -- Of IsGreatestTotal: the greatest total of the leaves of a bound, by its sides.
-use Rattle.std.proofs.Common.{◌≡◌, ◌+◌, ◌∙◌, ◌⊎◌, inl, inr, ℕ, zero, suc, ℤ, ◌≤ℤ◌, ◌<ℤ◌, Bool, List, [], ◌∷◌, ◌++◌, Some, length, ap, refl, subst, arith}
+use Rattle.std.proofs.Common.{◌≡◌, ◌+◌, ◌∙◌, ◌⊎◌, inl, inr, ℕ, zero, suc, ℤ, ◌≤ℤ◌, ◌<ℤ◌, Bool, List, [], ◌∷◌, ◌++◌}
+use Rattle.std.proofs.Common.{Some, length, ap, refl, subst, arith}
 use Rattle.std.proofs.lemmas.Int.{clamps, ints}
 use Rattle.std.proofs.lemmas.List.Elements.{All-append, All-nil, All-push}
 use Rattle.std.specs.Cmp.{int_ranks}
@@ -23,7 +24,8 @@ use Rattle.entry_checker.proofs.Gathering.{slice_get-kept}
 use Rattle.entry_checker.specs.inside.Gathered.{HasTotals}
 
 -- a bound that holds has totals
-pub HasTotals-holds : (graph : Graph) (allowed : List Bool) (bound : BoundValue) (upper : ℤ) → BoundHolds graph allowed bound upper
+pub HasTotals-holds : (graph : Graph) (allowed : List Bool) (bound : BoundValue) (upper : ℤ)
+    → BoundHolds graph allowed bound upper
     → HasTotals graph bound
 HasTotals-holds graph allowed (priced cert) upper holds = (holds.0.fits, holds.0.prices)
 HasTotals-holds graph allowed (split colour part first second) upper holds = (
@@ -32,7 +34,8 @@ HasTotals-holds graph allowed (split colour part first second) upper holds = (
 )
 
 -- totals of prices, and of the sides of a split
-pub HasTotals-priced : (graph : Graph) (bound : Bound) (cert : PriceValue) → bound ≡ Priced cert → HasTotals graph (bound_value bound)
+pub HasTotals-priced : (graph : Graph) (bound : Bound) (cert : PriceValue) → bound ≡ Priced cert
+    → HasTotals graph (bound_value bound)
     → FitsPrices graph cert × AreNotNegative cert.prices
 HasTotals-priced graph bound cert is has = subst (λ (value : BoundValue). HasTotals graph value) (ap bound_value is) has
 
@@ -40,10 +43,12 @@ pub HasTotals-split : (graph : Graph) (bound : Bound) (colour : ℕ) (part : Lis
     → bound ≡ Split colour part first second → HasTotals graph (bound_value bound)
     → HasTotals graph (bound_value first) × HasTotals graph (bound_value second)
 HasTotals-split graph bound colour part first second is has =
-    subst (λ (value : BoundValue). HasTotals graph value) (ap bound_value is ∙ value_of_split colour part first second) has
+    subst (λ (value : BoundValue). HasTotals graph value) (ap bound_value is
+    ∙ value_of_split colour part first second) has
 
 -- the total of one leaf
-pub IsGreatestTotal-leaf : (graph : Graph) (leaf : Leaf) → IsGreatestTotal graph (leaf ∷ []) (price_total graph leaf.cert)
+pub IsGreatestTotal-leaf : (graph : Graph) (leaf : Leaf)
+    → IsGreatestTotal graph (leaf ∷ []) (price_total graph leaf.cert)
 IsGreatestTotal-leaf graph leaf = record {
   most = All-push below [] leaf (All-nil below) (self (price_total graph leaf.cert));
   place = 0;
@@ -56,14 +61,17 @@ IsGreatestTotal-leaf graph leaf = record {
     below other = price_total graph other.cert ≤ℤ price_total graph leaf.cert
 
 -- the element at a place stands behind those of another list
-slice_get-behind : {X : Type 0} (xs ys : List X) (place behind : ℕ) (x : X) → behind ≡ length xs + place → slice_get ys place ≡ Some x
+slice_get-behind : {X : Type 0} (xs ys : List X) (place behind : ℕ) (x : X) → behind ≡ length xs + place
+    → slice_get ys place ≡ Some x
     → slice_get (xs ++ ys) behind ≡ Some x
 slice_get-behind [] ys place behind x is there = subst (λ (n : ℕ). slice_get ys n ≡ Some x) (omega (arith, is)) there
 slice_get-behind (first ∷ xs) ys place zero x is there = absurd (omega (arith, is))
-slice_get-behind (first ∷ xs) ys place (suc behind) x is there = slice_get-behind xs ys place behind x (omega (arith, is)) there
+slice_get-behind (first ∷ xs) ys place (suc behind) x is there =
+    slice_get-behind xs ys place behind x (omega (arith, is)) there
 
 -- the greater of two numbers is one of them
-max_is : (one other most : ℤ) → most ≡ int_max one other → ((most ≡ one) × (other ≤ℤ one)) ⊎ ((most ≡ other) × (one ≤ℤ other))
+max_is : (one other most : ℤ) → most ≡ int_max one other
+    → ((most ≡ one) × (other ≤ℤ one)) ⊎ ((most ≡ other) × (one ≤ℤ other))
 max_is one other most is = choose (int_cmp other one) (int_ranks other one)
   where
     choose : (order : Ordering) → MatchOrdering order (other <ℤ one) (other ≡ one) (one <ℤ other)
@@ -72,7 +80,8 @@ max_is one other most is = choose (int_cmp other one) (int_ranks other one)
     choose Equal equal = inr (omega (arith, ints, clamps, is), omega (arith, ints))
     choose Greater less = inr (omega (arith, ints, clamps, is), omega (arith, ints))
 
-raised : (graph : Graph) (leaves : List Leaf) (low high : ℤ) → low ≤ℤ high → All (λ leaf. price_total graph leaf.cert ≤ℤ low) leaves
+raised : (graph : Graph) (leaves : List Leaf) (low high : ℤ) → low ≤ℤ high
+    → All (λ leaf. price_total graph leaf.cert ≤ℤ low) leaves
     → All (λ leaf. price_total graph leaf.cert ≤ℤ high) leaves
 raised graph leaves low high rises each k d within = joined _ (each k d within)
   where
@@ -87,7 +96,8 @@ both graph first second one other most is its same = choose (max_is one other mo
     below : ℤ → Leaf → Type 0
     below upper leaf = price_total graph leaf.cert ≤ℤ upper
 
-    choose : ((most ≡ one) × (other ≤ℤ one)) ⊎ ((most ≡ other) × (one ≤ℤ other)) → IsGreatestTotal graph (first ++ second) most
+    choose : ((most ≡ one) × (other ≤ℤ one)) ⊎ ((most ≡ other) × (one ≤ℤ other))
+        → IsGreatestTotal graph (first ++ second) most
     choose (inl greater) = rw greater.0 (record {
       most = All-append (below one) first second is.most (raised graph second other one greater.1 its.most);
       place = is.place;
@@ -112,7 +122,8 @@ pub IsGreatestOf-priced : (graph : Graph) (bound : Bound) (cert : PriceValue) (m
 IsGreatestOf-priced graph bound cert most is same allowed node =
     rw (same, is) (IsGreatestTotal-leaf graph (record { node = node; allowed = allowed; cert = cert }))
 
-pub IsGreatestOf-split : (graph : Graph) (bound : Bound) (colour : ℕ) (part : List ℕ) (first second : Bound) (one other most : ℤ)
+pub IsGreatestOf-split : (graph : Graph) (bound : Bound) (colour : ℕ) (part : List ℕ) (first second : Bound)
+    (one other most : ℤ)
     → bound ≡ Split colour part first second → IsGreatestOf graph first one → IsGreatestOf graph second other
     → most ≡ int_max one other → IsGreatestOf graph bound most
 IsGreatestOf-split graph bound colour part first second one other most is its others same allowed node =

@@ -1,5 +1,6 @@
 -- Why a gap between a tree's score and its upper bound may not stand beside a bound that holds: the first place, in the
--- order of looking, where the budget of splits was not spent. Each kind is looked at over all nodes before the next kind.
+-- order of looking, where the budget of splits was not spent. Each kind is looked at over all nodes before the next
+-- kind.
 use Rattle.std.specs.Prelude.{◌≡◌, ◌≢◌, ℕ, ℤ, List, Some, slice_get, take}
 use Rattle.std.specs.List.{All}
 use Rattle.colour_graph.specs.EdgeSet.{all_edges}

@@ -25,8 +25,8 @@ use tree_certificate::{Cert, GREATEST_COLOURS, what_holds_bounds_every_tree};
 use tree_document::{Mark, Tree, TreeRow};
 use tree_entry::EntryPlace;
 
-/// Whether a tree is right for the graph of its candidate, of at most `GREATEST_GRAPH` vertices, under a budget of splits, or the first
-/// place where it is not. The upper bound of one that is right bounds every tree of the graph.
+/// Whether a tree is right for the graph of its candidate, of at most `GREATEST_GRAPH` vertices, under a budget of
+/// splits, or the first place where it is not. The upper bound of one that is right bounds every tree of the graph.
 pub fn check_entry(
     alloc: Global,
     built: &LossGraph,

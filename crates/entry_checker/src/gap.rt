@@ -125,8 +125,8 @@ fn greatest_total(graph: &ColourGraph, bound: &Bound) -> i64
     }
 }
 
-/// Looks at the nodes of the bound that begins at a node and holds on a set of edges, in order. The edges that are taken
-/// out of the set stand behind those taken out before, and are put back.
+/// Looks at the nodes of the bound that begins at a node and holds on a set of edges, in order. The edges that are
+/// taken out of the set stand behind those taken out before, and are put back.
 fn look_at(
     graph: &ColourGraph,
     bound: &Bound,

@@ -28,7 +28,7 @@ pub fn prices(rt: &HostRuntime, graph: &ColourGraph, case: &str) -> io::Result<(
 }
 
 /// Prices and potentials of a text, which a slash parts.
-fn prices_of(alloc: Global, text: &str) -> Result<Option<PriceCert>, AllocError> {
+pub fn prices_of(alloc: Global, text: &str) -> Result<Option<PriceCert>, AllocError> {
     let (prices, potentials) = text.split_once('/').unwrap_or((text, ""));
     Ok(PriceCert::new(numbers(alloc, prices)?, numbers(alloc, potentials)?))
 }
@@ -51,8 +51,8 @@ pub fn table(rt: &HostRuntime, graph: &ColourGraph, case: &str) -> io::Result<()
     }
 }
 
-/// Prints what is said of a split of all edges and an upper bound. The split stands behind it, the colour before the edges
-/// of its part; then the prices of the two sides.
+/// Prints what is said of a split of all edges and an upper bound. The split stands behind it, the colour before the
+/// edges of its part; then the prices of the two sides.
 pub fn split(rt: &HostRuntime, graph: &ColourGraph, case: &str) -> io::Result<()>
     requires { length graph.now.colours ≤ greatest_graph }
 {
@@ -73,7 +73,7 @@ pub fn split(rt: &HostRuntime, graph: &ColourGraph, case: &str) -> io::Result<()
 }
 
 /// The bound of one split, whose colour and part stand in a text.
-fn split_of(
+pub fn split_of(
     alloc: Global,
     text: &str,
     first: PriceCert,

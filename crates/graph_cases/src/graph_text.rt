@@ -65,7 +65,8 @@ fn add_edges(
     requires some { 0 < length colours.now }
     requires next { ComesNext builder.old (record { tail = 0; head = length colours.now - 1; weight = pos 0 }) }
     ensures colours { OnOk result (builder.new.colours ≡ colours.now) }
-    ensures next { OnOk result (ComesNext builder.new (record { tail = 0; head = length colours.now; weight = pos 0 })) }
+    ensures next { OnOk result
+        (ComesNext builder.new (record { tail = 0; head = length colours.now; weight = pos 0 })) }
 {
     let head = colours.len() - 1;
     let mut least = 0;

@@ -1,8 +1,9 @@
-//! Answers cases of graphs that are given as text, a line each. The kind of a case stands before its first bar, its graph
-//! behind that. Below each line stands what is answered.
+//! Answers cases of graphs that are given as text, a line each. The kind of a case stands before its first bar, its
+//! graph behind that. Below each line stands what is answered.
 #![tactic(auto)]
 
 mod certificates;
+mod gaps;
 mod graph_text;
 mod numbers;
 mod side_text;
@@ -42,6 +43,7 @@ fn answer_kind(rt: &HostRuntime, kind: &str, case: &str) -> io::Result<()> {
         "prices" => certificates::prices(rt, &graph, rest),
         "table" => certificates::table(rt, &graph, rest),
         "split" => certificates::split(rt, &graph, rest),
+        "gap" => gaps::gap(rt, graph, rest),
         _ => println!(rt; "  no such kind"),
     }
 }

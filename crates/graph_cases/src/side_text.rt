@@ -1,5 +1,5 @@
-//! A set of the edges of a graph from its text: words that are each taken in turn from the set of all edges. A colour, a
-//! colon and an edge keep of the edges into the colour that one alone; a minus sign and an edge take that one out.
+//! A set of the edges of a graph from its text: words that are each taken in turn from the set of all edges. A colour,
+//! a colon and an edge keep of the edges into the colour that one alone; a minus sign and an edge take that one out.
 ghost use Rattle.std.specs.Prelude.{IfOk};
 ghost use Rattle.colour_graph.specs.EdgeSet.{IsSetOf};
 

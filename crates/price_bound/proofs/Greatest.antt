@@ -1,5 +1,6 @@
 -- The greatest of some numbers, looked at one after another: of the edges into a colour, and of those from one vertex.
-use Rattle.std.proofs.Common.{◌≡◌, ◌+◌, ◌<◌, ◌↔◌, ◌⊎◌, inl, inr, ℕ, ℤ, pos, negsuc, ◌≤ℤ◌, ◌<ℤ◌, cond, List, [], ◌∷◌, fold, map, refl, subst, arith}
+use Rattle.std.proofs.Common.{◌≡◌, ◌+◌, ◌<◌, ◌↔◌, ◌⊎◌, inl, inr, ℕ, ℤ, pos, negsuc, ◌≤ℤ◌, ◌<ℤ◌, cond, List, [], ◌∷◌}
+use Rattle.std.proofs.Common.{fold, map, refl, subst, arith}
 use Rattle.std.proofs.lemmas.Bool.{cases_eq}
 use Rattle.std.proofs.lemmas.Int.{clamps, fold-int_max_bounds, ints}
 use Rattle.std.specs.Cmp.{int_ranks}
@@ -36,10 +37,13 @@ pub record IsAbove (Counts : ℕ → Type 0) (number : ℕ → ℤ) (past : ℕ)
 abbrev pub IsGreatest : (ℕ → Type 0) → (ℕ → ℤ) → ℕ → ℤ → Type 0
 IsGreatest Counts number past most = (upper : ℤ) → (most ≤ℤ upper) ↔ IsAbove Counts number past upper
 
-pub greatest-none : (Counts : ℕ → Type 0) (number : ℕ → ℤ) (past : ℕ) → ((place : ℕ) → place < past → Counts place → ⊥) → IsGreatest Counts number past (pos 0)
-greatest-none Counts number past none = λ upper. (λ low. record { zero = low; each = λ place below counts. absurd (none place below counts) }, λ above. above.zero)
+pub greatest-none : (Counts : ℕ → Type 0) (number : ℕ → ℤ) (past : ℕ) → ((place : ℕ) → place < past → Counts place → ⊥)
+    → IsGreatest Counts number past (pos 0)
+greatest-none Counts number past none = λ upper.
+    (λ low. record { zero = low; each = λ place below counts. absurd (none place below counts) }, λ above. above.zero)
 
-pub greatest-with : (Counts : ℕ → Type 0) (number : ℕ → ℤ) (place : ℕ) (most more : ℤ) → Counts place → IsGreatest Counts number place most → IsGreater more most (number place)
+pub greatest-with : (Counts : ℕ → Type 0) (number : ℕ → ℤ) (place : ℕ) (most more : ℤ) → Counts place
+    → IsGreatest Counts number place most → IsGreater more most (number place)
     → IsGreatest Counts number (place + 1) more
 greatest-with Counts number place most more counts so_far both upper = (to, from)
   where
@@ -62,7 +66,8 @@ greatest-with Counts number place most more counts so_far both upper = (to, from
       above.each place (omega arith) counts,
     )
 
-pub greatest-without : (Counts : ℕ → Type 0) (number : ℕ → ℤ) (place : ℕ) (most : ℤ) → (Counts place → ⊥) → IsGreatest Counts number place most
+pub greatest-without : (Counts : ℕ → Type 0) (number : ℕ → ℤ) (place : ℕ) (most : ℤ) → (Counts place → ⊥)
+    → IsGreatest Counts number place most
     → IsGreatest Counts number (place + 1) most
 greatest-without Counts number place most none so_far upper = (to, from)
   where
@@ -80,17 +85,24 @@ greatest-without Counts number place most none so_far upper = (to, from)
             choose (inr apart) = before.each other (omega (arith, at, apart)) here
 
     from : IsAbove Counts number (place + 1) upper → most ≤ℤ upper
-    from above = (so_far upper).1 (record { zero = above.zero; each = λ other at. above.each other (omega (arith, at)) })
+    from above = (so_far upper).1 (record {
+      zero = above.zero;
+      each = λ other at. above.each other (omega (arith, at));
+    })
 
 -- a bound of 0 and of each number bounds the greatest
-fold-low : (first upper : ℤ) (ns : List ℤ) → first ≤ℤ upper → ((n : ℤ) → IsIn n ns → n ≤ℤ upper) → fold int_max first ns ≤ℤ upper
+fold-low : (first upper : ℤ) (ns : List ℤ) → first ≤ℤ upper → ((n : ℤ) → IsIn n ns → n ≤ℤ upper)
+    → fold int_max first ns ≤ℤ upper
 fold-low first upper [] low each = low
-fold-low first upper (n ∷ ns) low each = fold-low (int_max first n) upper ns (greater first n upper low (each n (inl refl))) (λ m within. each m (inr within))
+fold-low first upper (n ∷ ns) low each =
+    fold-low (int_max first n) upper ns (greater first n upper low (each n (inl refl)))
+    (λ m within. each m (inr within))
   where
     greater : (a b c : ℤ) → a ≤ℤ c → b ≤ℤ c → int_max a b ≤ℤ c
     greater a b c one other = omega (arith, ints, clamps)
 
-pub greatest-low : {X : Type 0} (f : X → ℤ) (upper : ℤ) (xs : List X) → pos 0 ≤ℤ upper → ((x : X) → IsIn x xs → f x ≤ℤ upper) → greatest (map f xs) ≤ℤ upper
+pub greatest-low : {X : Type 0} (f : X → ℤ) (upper : ℤ) (xs : List X) → pos 0 ≤ℤ upper
+    → ((x : X) → IsIn x xs → f x ≤ℤ upper) → greatest (map f xs) ≤ℤ upper
 greatest-low {X} f upper xs not_below each = fold-low (pos 0) upper (map f xs) not_below (mapped xs each)
   where
     mapped : (ys : List X) → ((x : X) → IsIn x ys → f x ≤ℤ upper) → (n : ℤ) → IsIn n (map f ys) → n ≤ℤ upper
@@ -98,7 +110,8 @@ greatest-low {X} f upper xs not_below each = fold-low (pos 0) upper (map f xs) n
     mapped (y ∷ ys) each' n (inl is) = rw is (each' y (inl refl))
     mapped (y ∷ ys) each' n (inr later) = mapped ys (λ x within. each' x (inr within)) n later
 
-pub greatest-high : {X : Type 0} (f : X → ℤ) (xs : List X) → (pos 0 ≤ℤ greatest (map f xs)) × ((x : X) → IsIn x xs → f x ≤ℤ greatest (map f xs))
+pub greatest-high : {X : Type 0} (f : X → ℤ) (xs : List X)
+    → (pos 0 ≤ℤ greatest (map f xs)) × ((x : X) → IsIn x xs → f x ≤ℤ greatest (map f xs))
 greatest-high {X} f xs = (bounds.0, each)
   where
     bounds : (pos 0 ≤ℤ greatest (map f xs)) × All (λ n. n ≤ℤ greatest (map f xs)) (map f xs)
@@ -114,18 +127,26 @@ self : (a : ℤ) → a ≤ℤ a
 self a = omega (arith, ints)
 
 -- What counts is what a list has: then the greatest number that counts is the greatest of the list.
-pub greatest-is : (Counts : ℕ → Type 0) (number : ℕ → ℤ) (past : ℕ) (xs : List ℕ) (most : ℤ) → ((place : ℕ) → IsIn place xs → (place < past) × Counts place)
-    → ((place : ℕ) → place < past → Counts place → IsIn place xs) → IsGreatest Counts number past most → most ≡ greatest (map number xs)
+pub greatest-is : (Counts : ℕ → Type 0) (number : ℕ → ℤ) (past : ℕ) (xs : List ℕ) (most : ℤ)
+    → ((place : ℕ) → IsIn place xs → (place < past) × Counts place)
+    → ((place : ℕ) → place < past → Counts place → IsIn place xs) → IsGreatest Counts number past most
+    → most ≡ greatest (map number xs)
 greatest-is Counts number past xs most counted listed is =
     let bounds = greatest-high number xs in
     let least = (is most).0 (self most) in
     same_number most (greatest (map number xs))
-    ((is (greatest (map number xs))).1 (record { zero = bounds.0; each = λ place below counts. bounds.1 place (listed place below counts) }))
-    (greatest-low number most xs least.zero (λ place within. least.each place (counted place within).0 (counted place within).1))
+    ((is (greatest (map number xs))).1 (record {
+      zero = bounds.0;
+      each = λ place below counts. bounds.1 place (listed place below counts);
+    }))
+    (greatest-low number most xs least.zero
+    (λ place within. least.each place (counted place within).0 (counted place within).1))
 
 -- the same under other names
-pub greater-as : (more more' most most' number number' : ℤ) → more' ≡ more → most ≡ most' → number ≡ number' → IsGreater more most number → IsGreater more' most' number'
-greater-as more more' most most' number number' same_more same_most same_number' is = rw (same_more, ← same_most, ← same_number') is
+pub greater-as : (more more' most most' number number' : ℤ) → more' ≡ more → most ≡ most' → number ≡ number'
+    → IsGreater more most number → IsGreater more' most' number'
+greater-as more more' most most' number number' same_more same_most same_number' is =
+    rw (same_more, ← same_most, ← same_number') is
 
 -- what the method `max` gives
 pub IsGreater-max : (most number more : ℤ) → more ≡ ord_max int_cmp most number → IsGreater more most number

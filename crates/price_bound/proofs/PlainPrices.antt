@@ -1,5 +1,6 @@
 -- Of IsPlain: for prices of 0 the least potentials always fit a certificate, with few colours or on a decided set.
-use Rattle.std.proofs.Common.{◌≡◌, ◌≤◌, ◌⊎◌, inl, inr, ℕ, zero, suc, ℤ, pos, ◌+ℤ◌, ◌≤ℤ◌, Bool, true, false, List, length, replicate, ap, refl, ◌∙◌, arith}
+use Rattle.std.proofs.Common.{◌≡◌, ◌≤◌, ◌⊎◌, inl, inr, ℕ, zero, suc, ℤ, pos, ◌+ℤ◌, ◌≤ℤ◌, Bool, true, false, List}
+use Rattle.std.proofs.Common.{length, replicate, ap, refl, ◌∙◌, arith}
 use Rattle.std.proofs.lemmas.Bool.{cases_Bool}
 use Rattle.std.proofs.lemmas.Int.{ints}
 use Rattle.std.proofs.lemmas.List.{get_or_default, length-replicate}
@@ -36,10 +37,13 @@ pub record ArePlain (graph : Graph) (allowed : List Bool) (prices potentials : L
   pub holds : PriceHolds graph allowed (cert_with prices potentials)
   pub tree : IsDecided graph allowed → IsTreeScore graph allowed (price_total graph (cert_with prices potentials))
 
-pub ArePlain-written : (graph : Graph) (allowed : List Bool) (count : ℕ) (prices potentials : List ℤ) (low : Bool) → prices ≡ replicate count (pos 0) → count ≡ colour_count graph
-    → length potentials ≡ length graph.colours → IsGraph graph → length graph.colours ≤ 512 → (colour_count graph ≤ 12) ⊎ IsDecided graph allowed
+pub ArePlain-written : (graph : Graph) (allowed : List Bool) (count : ℕ) (prices potentials : List ℤ) (low : Bool)
+    → prices ≡ replicate count (pos 0) → count ≡ colour_count graph
+    → length potentials ≡ length graph.colours → IsGraph graph → length graph.colours ≤ 512
+    → (colour_count graph ≤ 12) ⊎ IsDecided graph allowed
     → AreWritten graph allowed prices potentials low → ArePlain graph allowed prices potentials
-ArePlain-written graph allowed count prices potentials low zeros counted long is few decided written = choose (cases_Bool low)
+ArePlain-written graph allowed count prices potentials low zeros counted long is few decided written =
+    choose (cases_Bool low)
   where
     free : (place : ℕ) → number_in prices place ≡ pos 0
     free = rw zeros (clear-replicate count)
@@ -67,10 +71,12 @@ ArePlain-written graph allowed count prices potentials low zeros counted long is
       plain = record {
         fits = fits;
         prices = λ k d within. get_or_default prices k d (pos 0) within ∙ free k;
-        potentials = λ vertex within. written.exact true_is vertex within ∙ needed-is graph allowed prices potentials vertex;
+        potentials = λ vertex within. written.exact true_is vertex within
+            ∙ needed-is graph allowed prices potentials vertex;
       };
       holds = holds-exact graph allowed prices potentials fits amounts (written.exact true_is);
-      tree = λ one. tree-plain graph allowed prices potentials is one free (ap total zeros ∙ total-replicate count) (written.exact true_is);
+      tree = λ one. tree-plain graph allowed prices potentials is one free (ap total zeros ∙ total-replicate count)
+          (written.exact true_is);
     }
 
     choose : (low ≡ true) ⊎ (low ≡ false) → ArePlain graph allowed prices potentials

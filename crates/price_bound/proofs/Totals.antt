@@ -1,5 +1,6 @@
 -- Of total: the sum of numbers of a certificate, one after another.
-use Rattle.std.proofs.Common.{◌≡◌, ◌+◌, ◌*◌, ◌<◌, ◌≤◌, ◌∙◌, ℕ, suc, ℤ, pos, negsuc, ◌+ℤ◌, ◌≤ℤ◌, true, List, [], ◌∷◌, ◌++◌, length, take, ap, arith, SFits, of_z, to_z, w64}
+use Rattle.std.proofs.Common.{◌≡◌, ◌+◌, ◌*◌, ◌<◌, ◌≤◌, ◌∙◌, ℕ, suc, ℤ, pos, negsuc, ◌+ℤ◌, ◌≤ℤ◌, true, List, [], ◌∷◌}
+use Rattle.std.proofs.Common.{◌++◌, length, take, ap, arith, SFits, of_z, to_z, w64}
 use Rattle.std.proofs.lemmas.Bool.{and_parts, leb-true}
 use Rattle.std.proofs.lemmas.Int.{ints, to_z-of_z}
 use Rattle.std.proofs.lemmas.List.{take_more}
@@ -20,8 +21,10 @@ pub total-push : (ns : List ℤ) (n : ℤ) → total (ns ++ n ∷ []) ≡ total 
 total-push [] n = last_added n
 total-push (first ∷ ns) n = ap (λ rest. first +ℤ rest) (total-push ns n) ∙ regrouped first (total ns) n
 
-pub total-more : (ns : List ℤ) (count : ℕ) → count < length ns → total (take (count + 1) ns) ≡ total (take count ns) +ℤ number_in ns count
-total-more ns count within = ap total (take_more ns count (pos 0) within) ∙ total-push (take count ns) (number_in ns count)
+pub total-more : (ns : List ℤ) (count : ℕ) → count < length ns
+    → total (take (count + 1) ns) ≡ total (take count ns) +ℤ number_in ns count
+total-more ns count within = ap total (take_more ns count (pos 0) within)
+    ∙ total-push (take count ns) (number_in ns count)
 
 -- a number at most so far from 0 as a number of a certificate may be
 pub record IsNear (number : ℤ) : Type 0 where
@@ -29,11 +32,14 @@ pub record IsNear (number : ℤ) : Type 0 where
   pub not_above : number ≤ℤ pos 1000000000000000
 
 near : (z : ℤ) → is_near greatest_number z ≡ true → IsNear z
-near (pos n) is = let low : n ≤ 1000000000000000 = leb-true n 1000000000000000 is in record { not_below = omega (arith, ints); not_above = omega (arith, ints) }
-near (negsuc n) is = let low : suc n ≤ 1000000000000000 = leb-true (suc n) 1000000000000000 is in record { not_below = omega (arith, ints); not_above = omega (arith, ints) }
+near (pos n) is = let low : n ≤ 1000000000000000 = leb-true n 1000000000000000 is in
+    record { not_below = omega (arith, ints); not_above = omega (arith, ints) }
+near (negsuc n) is = let low : suc n ≤ 1000000000000000 = leb-true (suc n) 1000000000000000 is in
+    record { not_below = omega (arith, ints); not_above = omega (arith, ints) }
 
 pub IsNear-at : (ns : List ℤ) (place : ℕ) → AreNear ns → place < length ns → IsNear (number_in ns place)
-IsNear-at ns place are within = near (number_in ns place) (AllPass-from_list_all (is_near greatest_number) ns are place (pos 0) within)
+IsNear-at ns place are within = near (number_in ns place)
+    (AllPass-from_list_all (is_near greatest_number) ns are place (pos 0) within)
 
 pub SFits-near : (number : ℤ) → IsNear number → SFits w64 number
 SFits-near number is = fits number is.not_below is.not_above
@@ -47,7 +53,8 @@ pub record IsSumNear (sum : ℤ) (count : ℕ) : Type 0 where
   pub not_below : pos 0 ≤ℤ (sum +ℤ pos (1000000000000000 * count))
   pub not_above : sum ≤ℤ pos (1000000000000000 * count)
 
-pub IsSumNear-more : (sum number : ℤ) (count : ℕ) → IsSumNear sum count → IsNear number → IsSumNear (sum +ℤ number) (count + 1)
+pub IsSumNear-more : (sum number : ℤ) (count : ℕ) → IsSumNear sum count → IsNear number
+    → IsSumNear (sum +ℤ number) (count + 1)
 IsSumNear-more sum number count so_far is = record {
   not_below = omega (arith, ints, so_far.not_below, is.not_below);
   not_above = omega (arith, ints, so_far.not_above, is.not_above);
@@ -56,7 +63,8 @@ IsSumNear-more sum number count so_far is = record {
 pub SFits-sum : (sum : ℤ) (count : ℕ) → IsSumNear sum count → count ≤ 4098 → SFits w64 sum
 SFits-sum sum count is few = fits sum (low sum count is.not_below few) (high sum count is.not_above few)
   where
-    low : (z : ℤ) (count : ℕ) → pos 0 ≤ℤ (z +ℤ pos (1000000000000000 * count)) → count ≤ 4098 → pos 0 ≤ℤ (z +ℤ pos 4098000000000000000)
+    low : (z : ℤ) (count : ℕ) → pos 0 ≤ℤ (z +ℤ pos (1000000000000000 * count)) → count ≤ 4098
+        → pos 0 ≤ℤ (z +ℤ pos 4098000000000000000)
     low z count is few = omega (arith, ints)
 
     high : (z : ℤ) (count : ℕ) → z ≤ℤ pos (1000000000000000 * count) → count ≤ 4098 → z ≤ℤ pos 4098000000000000000
@@ -66,7 +74,8 @@ SFits-sum sum count is few = fits sum (low sum count is.not_below few) (high sum
     fits (pos n) low high = record { sfits = omega (arith, ints) }
     fits (negsuc n) low high = record { sfits = omega (arith, ints) }
 
-IsSumNear-first : (first sum : ℤ) (count : ℕ) → IsNear first → IsSumNear sum count → IsSumNear (first +ℤ sum) (suc count)
+IsSumNear-first : (first sum : ℤ) (count : ℕ) → IsNear first → IsSumNear sum count
+    → IsSumNear (first +ℤ sum) (suc count)
 IsSumNear-first first sum count is so_far = record {
   not_below = omega (arith, ints, so_far.not_below, is.not_below);
   not_above = omega (arith, ints, so_far.not_above, is.not_above);
@@ -79,25 +88,36 @@ IsSumNear-total (n ∷ ns) are =
     IsSumNear-first n (total ns) (length ns) (near n parts.0) (IsSumNear-total ns parts.1)
 
 -- a sum, one more number of a certificate and a score
-pub SFits-with : (sum number : ℤ) (count : ℕ) → IsSumNear sum count → IsNear number → count ≤ 4096 → SFits w64 (number +ℤ sum)
-SFits-with sum number count so_far is few = SFits-sum (number +ℤ sum) (suc count) (IsSumNear-first number sum count is so_far) (omega arith)
+pub SFits-with : (sum number : ℤ) (count : ℕ) → IsSumNear sum count → IsNear number → count ≤ 4096
+    → SFits w64 (number +ℤ sum)
+SFits-with sum number count so_far is few =
+    SFits-sum (number +ℤ sum) (suc count) (IsSumNear-first number sum count is so_far) (omega arith)
 
 pub IsNear-score : (score : ℤ) → IsScore score → IsNear score
-IsNear-score score is = record { not_below = omega (arith, ints, is.not_below); not_above = omega (arith, ints, is.not_above) }
+IsNear-score score is = record {
+  not_below = omega (arith, ints, is.not_below);
+  not_above = omega (arith, ints, is.not_above);
+}
 
-pub SFits-whole : (sum number score : ℤ) (count : ℕ) → IsSumNear sum count → IsNear number → IsScore score → count ≤ 4096 → SFits w64 (score +ℤ (number +ℤ sum))
+pub SFits-whole : (sum number score : ℤ) (count : ℕ) → IsSumNear sum count → IsNear number → IsScore score
+    → count ≤ 4096 → SFits w64 (score +ℤ (number +ℤ sum))
 SFits-whole sum number score count so_far is score_is few =
-    SFits-sum (score +ℤ (number +ℤ sum)) (suc (suc count)) (IsSumNear-first score (number +ℤ sum) (suc count) (IsNear-score score score_is) (IsSumNear-first number sum count is so_far)) (omega arith)
+    SFits-sum (score +ℤ (number +ℤ sum)) (suc (suc count))
+    (IsSumNear-first score (number +ℤ sum) (suc count) (IsNear-score score score_is)
+    (IsSumNear-first number sum count is so_far)) (omega arith)
 
 -- what the code makes of a potential and the prices, and with the root's score
 pub with_prices : (sum number : ℤ) (count : ℕ) → IsSumNear sum count → IsNear number → count ≤ 4096
     → to_z w64 (of_z w64 number) +ℤ to_z w64 (of_z w64 sum) ≡ number +ℤ sum
 with_prices sum number count so_far is few =
-    ap (λ n. n +ℤ to_z w64 (of_z w64 sum)) (to_z-of_z w64 number (SFits-near number is)) ∙ ap (λ n. number +ℤ n) (to_z-of_z w64 sum (SFits-sum sum count so_far (omega arith)))
+    ap (λ n. n +ℤ to_z w64 (of_z w64 sum)) (to_z-of_z w64 number (SFits-near number is))
+    ∙ ap (λ n. number +ℤ n) (to_z-of_z w64 sum (SFits-sum sum count so_far (omega arith)))
 
 pub with_root : (sum number score : ℤ) (count : ℕ) → IsSumNear sum count → IsNear number → IsScore score → count ≤ 4096
-    → to_z w64 (of_z w64 score) +ℤ to_z w64 (of_z w64 (to_z w64 (of_z w64 number) +ℤ to_z w64 (of_z w64 sum))) ≡ score +ℤ (number +ℤ sum)
+    → to_z w64 (of_z w64 score) +ℤ to_z w64 (of_z w64 (to_z w64 (of_z w64 number) +ℤ to_z w64 (of_z w64 sum)))
+    ≡ score +ℤ (number +ℤ sum)
 with_root sum number score count so_far is score_is few =
-    ap (λ n. n +ℤ to_z w64 (of_z w64 (to_z w64 (of_z w64 number) +ℤ to_z w64 (of_z w64 sum)))) (to_z-of_z w64 score (SFits-near score (IsNear-score score score_is)))
+    ap (λ n. n +ℤ to_z w64 (of_z w64 (to_z w64 (of_z w64 number) +ℤ to_z w64 (of_z w64 sum))))
+    (to_z-of_z w64 score (SFits-near score (IsNear-score score score_is)))
     ∙ ap (λ n. score +ℤ to_z w64 (of_z w64 n)) (with_prices sum number count so_far is few)
     ∙ ap (λ n. score +ℤ n) (to_z-of_z w64 (number +ℤ sum) (SFits-with sum number count so_far is few))

@@ -17,9 +17,10 @@ use tree_certificate::PriceCert;
 /// How often all prices are tried one higher or lower.
 const PASSES: u32 = 4;
 
-/// Prices and potentials, in units of scores, that hold on a set of edges of a graph of at most `GREATEST_GRAPH` vertices and say no
-/// more of the whole graph than the cap of the set. They are found by a subgradient walk over prices, as for Lagrangian
-/// relaxations (Held and Karp 1971), and are not always the best ones. The error is want of memory.
+/// Prices and potentials, in units of scores, that hold on a set of edges of a graph of at most `GREATEST_GRAPH`
+/// vertices and say no more of the whole graph than the cap of the set. They are found by a subgradient walk over
+/// prices, as for Lagrangian relaxations (Held and Karp 1971), and are not always the best ones. The error is want of
+/// memory.
 pub fn improve(
     alloc: Global,
     graph: &ColourGraph,

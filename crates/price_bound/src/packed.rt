@@ -1,5 +1,5 @@
-//! The edges of a set, packed for the rounds of an improvement: scaled, and in a row for each tail and colour. The rounds
-//! are a search, so nothing is said of what they find.
+//! The edges of a set, packed for the rounds of an improvement: scaled, and in a row for each tail and colour. The
+//! rounds are a search, so nothing is said of what they find.
 ghost use Rattle.std.specs.Prelude.{◌≤◌, ◌<◌, ◌^◌, IfOk, length};
 ghost use Rattle.std.specs.List.{All};
 ghost use Rattle.colour_graph.specs.EdgeSet.{IsSetOf};

@@ -8,8 +8,8 @@ ghost use Rattle.tree_certificate.specs.PriceHolds.{price_total};
 use colour_graph::ColourGraph;
 use tree_certificate::PriceCert;
 
-/// What prices and potentials say of the whole graph: the root's score and potential and all prices, in units of scores.
-/// Where they hold on a set of edges, no colourful list of its edges scores more.
+/// What prices and potentials say of the whole graph: the root's score and potential and all prices, in units of
+/// scores. Where they hold on a set of edges, no colourful list of its edges scores more.
 pub fn bound_of(graph: &ColourGraph, cert: &PriceCert) -> i64
     requires prices { length cert.now.prices ≡ colour_count graph.now }
     requires potentials { length cert.now.potentials ≡ length graph.now.colours }

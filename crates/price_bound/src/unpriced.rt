@@ -12,10 +12,10 @@ use colour_graph::{Allowed, ColourGraph};
 use std::alloc::{AllocError, Global};
 use tree_certificate::PriceCert;
 
-/// Prices of 0 and the least potentials for them, on a set of edges of a graph of at most `GREATEST_GRAPH` vertices. The
-/// graph has at most `GREATEST_COLOURS` colours, or the set at most one edge into each of them. They hold on the set; and
-/// where it has at most one edge into each colour, what they say of the whole graph is the score of one of its trees. The
-/// error is want of memory.
+/// Prices of 0 and the least potentials for them, on a set of edges of a graph of at most `GREATEST_GRAPH` vertices.
+/// The graph has at most `GREATEST_COLOURS` colours, or the set at most one edge into each of them. They hold on the
+/// set; and where it has at most one edge into each colour, what they say of the whole graph is the score of one of its
+/// trees. The error is want of memory.
 pub fn plain(alloc: Global, graph: &ColourGraph, allowed: &Allowed) -> Result<PriceCert, AllocError>
     requires vertices { length graph.now.colours ≤ greatest_graph }
     requires set { IsSetOf graph.now allowed.now }

@@ -1,5 +1,6 @@
 -- What vertices own after a part of one's colours was given to another, for reading a best list out of a table.
-use Rattle.std.proofs.Common.{◌≡◌, ◌≢◌, ◌⊎◌, inl, inr, ℕ, zero, suc, Bool, true, false, ◌&&◌, eqb, List, [], ◌∷◌, length, replicate, ap, ap₂, sym, refl, ◌∙◌}
+use Rattle.std.proofs.Common.{◌≡◌, ◌≢◌, ◌⊎◌, inl, inr, ℕ, zero, suc, Bool, true, false, ◌&&◌, eqb, List, [], ◌∷◌}
+use Rattle.std.proofs.Common.{length, replicate, ap, ap₂, sym, refl, ◌∙◌}
 use Rattle.std.proofs.lemmas.Bool.{eq-eqb, eqb-true, ne_eqb}
 use Rattle.tree_certificate.specs.ColourSet.{IsPartOf, without}
 use Rattle.tree_certificate.proofs.Sums.{IsIn}
@@ -22,7 +23,8 @@ length-part (taken ∷ part) [] is_part = absurd is_part
 length-part (taken ∷ part) (here ∷ set) is_part = ap suc (length-part part set is_part.1)
 
 -- An owner after the giving is the one that was given to, or was one before.
-pub IsIn-given : (part : List Bool) (vertex owner : ℕ) (owners : List ℕ) → IsIn owner (given part vertex owners) → (owner ≡ vertex) ⊎ IsIn owner owners
+pub IsIn-given : (part : List Bool) (vertex owner : ℕ) (owners : List ℕ) → IsIn owner (given part vertex owners)
+    → (owner ≡ vertex) ⊎ IsIn owner owners
 IsIn-given part vertex owner [] within = absurd within
 IsIn-given [] vertex owner (first ∷ owners) within = inr within
 IsIn-given (true ∷ part) vertex owner (first ∷ owners) (inl is) = inl is
@@ -34,24 +36,29 @@ IsIn-given (taken ∷ part) vertex owner (first ∷ owners) (inr later) = choose
     choose (inr within) = inr (inr within)
 
 -- One that owned nothing owns the part.
-pub owned-given_new : (part : List Bool) (vertex : ℕ) (owners : List ℕ) → length part ≡ length owners → ((owner : ℕ) → IsIn owner owners → owner ≢ vertex)
+pub owned-given_new : (part : List Bool) (vertex : ℕ) (owners : List ℕ) → length part ≡ length owners
+    → ((owner : ℕ) → IsIn owner owners → owner ≢ vertex)
     → owned vertex (given part vertex owners) ≡ part
 owned-given_new [] vertex [] long apart = refl
 owned-given_new [] vertex (owner ∷ owners) long apart = cc
 owned-given_new (taken ∷ part) vertex [] long apart = cc
 owned-given_new (true ∷ part) vertex (owner ∷ owners) long apart =
-    ap₂ (λ b bs. b ∷ bs) (eq-eqb vertex vertex refl) (owned-given_new part vertex owners (cc) (λ o within. apart o (inr within)))
+    ap₂ (λ b bs. b ∷ bs) (eq-eqb vertex vertex refl)
+    (owned-given_new part vertex owners (cc) (λ o within. apart o (inr within)))
 owned-given_new (false ∷ part) vertex (owner ∷ owners) long apart =
-    ap₂ (λ b bs. b ∷ bs) (ne_eqb owner vertex (apart owner (inl refl))) (owned-given_new part vertex owners (cc) (λ o within. apart o (inr within)))
+    ap₂ (λ b bs. b ∷ bs) (ne_eqb owner vertex (apart owner (inl refl)))
+    (owned-given_new part vertex owners (cc) (λ o within. apart o (inr within)))
 
 -- The one that gave owns the rest.
-pub owned-given_from : (part : List Bool) (from vertex : ℕ) (owners : List ℕ) → from ≢ vertex → IsPartOf part (owned from owners)
+pub owned-given_from : (part : List Bool) (from vertex : ℕ) (owners : List ℕ) → from ≢ vertex
+    → IsPartOf part (owned from owners)
     → owned from (given part vertex owners) ≡ without (owned from owners) part
 owned-given_from [] from vertex [] apart is_part = refl
 owned-given_from [] from vertex (owner ∷ owners) apart is_part = absurd is_part
 owned-given_from (taken ∷ part) from vertex [] apart is_part = absurd is_part
 owned-given_from (true ∷ part) from vertex (owner ∷ owners) apart is_part =
-    ap₂ (λ b bs. b ∷ bs) (ne_eqb vertex from (λ same. apart (sym same)) ∙ sym (and_false (eqb owner from))) (owned-given_from part from vertex owners apart is_part.1)
+    ap₂ (λ b bs. b ∷ bs) (ne_eqb vertex from (λ same. apart (sym same)) ∙ sym (and_false (eqb owner from)))
+    (owned-given_from part from vertex owners apart is_part.1)
   where
     and_false : (b : Bool) → (b && false) ≡ false
     and_false true = refl
@@ -64,14 +71,16 @@ owned-given_from (false ∷ part) from vertex (owner ∷ owners) apart is_part =
     and_true false = refl
 
 -- All others own what they did.
-pub owned-given_other : (part : List Bool) (from vertex other : ℕ) (owners : List ℕ) → other ≢ from → other ≢ vertex → IsPartOf part (owned from owners)
+pub owned-given_other : (part : List Bool) (from vertex other : ℕ) (owners : List ℕ) → other ≢ from → other ≢ vertex
+    → IsPartOf part (owned from owners)
     → owned other (given part vertex owners) ≡ owned other owners
 owned-given_other [] from vertex other [] not_from not_vertex is_part = refl
 owned-given_other [] from vertex other (owner ∷ owners) not_from not_vertex is_part = refl
 owned-given_other (taken ∷ part) from vertex other [] not_from not_vertex is_part = refl
 owned-given_other (true ∷ part) from vertex other (owner ∷ owners) not_from not_vertex is_part =
     ap₂ (λ b bs. b ∷ bs)
-    (ne_eqb vertex other (λ same. not_vertex (sym same)) ∙ sym (ne_eqb owner other (λ same. not_from (sym same ∙ eqb-true owner from (is_part.0 refl)))))
+    (ne_eqb vertex other (λ same. not_vertex (sym same))
+    ∙ sym (ne_eqb owner other (λ same. not_from (sym same ∙ eqb-true owner from (is_part.0 refl)))))
     (owned-given_other part from vertex other owners not_from not_vertex is_part.1)
 owned-given_other (false ∷ part) from vertex other (owner ∷ owners) not_from not_vertex is_part =
     ap (λ bs. eqb owner other ∷ bs) (owned-given_other part from vertex other owners not_from not_vertex is_part.1)

@@ -1,6 +1,7 @@
 //! Reading a best colourful list of edges out of a table of exact numbers: colour by colour, each left out by the
 //! vertex that owns it or taken by an edge from there.
-ghost use Rattle.std.specs.Prelude.{◌≡◌, ◌≤◌, ◌<◌, ◌+◌, ◌-◌, ◌∷◌, ◌^◌, ℕ, List, Bool, IfOk, MatchOption, drop, length, map};
+ghost use Rattle.std.specs.Prelude.{◌≡◌, ◌≤◌, ◌<◌, ◌+◌, ◌-◌, ◌∷◌, ◌^◌, ℕ, List, Bool, IfOk, MatchOption, drop, length};
+ghost use Rattle.std.specs.Prelude.{map};
 ghost use Rattle.std.specs.Prelude.{negsuc, pos, slice_index, ◌≤ℤ◌};
 ghost use Rattle.std.specs.List.{All, AllPairs};
 ghost use Rattle.colour_graph.specs.Colourful.{IsColourful, score_of};

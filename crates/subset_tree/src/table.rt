@@ -1,8 +1,10 @@
 //! The filling of the table of a graph of few colours with exact numbers, after Böcker and Rasche 2008.
-ghost use Rattle.std.specs.Prelude.{◌≡◌, ◌≤◌, ◌<◌, ◌+◌, ◌-◌, ◌*◌, ◌^◌, ◌↔◌, ℕ, ℤ, pos, negsuc, ◌+ℤ◌, ◌≤ℤ◌, List, Bool, false, IfOk, length, map};
+ghost use Rattle.std.specs.Prelude.{◌≡◌, ◌≤◌, ◌<◌, ◌+◌, ◌-◌, ◌*◌, ◌^◌, ◌↔◌, ℕ, ℤ, pos, negsuc, ◌+ℤ◌, ◌≤ℤ◌, List, Bool};
+ghost use Rattle.std.specs.Prelude.{false, IfOk, length, map};
 ghost use Rattle.colour_graph.specs.Graph.{IsGraph, colour_count, colour_of, greatest_graph};
 ghost use Rattle.subset_tree.specs.inside.Exact.{IsExact};
-ghost use Rattle.subset_tree.specs.inside.Filling.{AreFilledFrom, AreGains, AreGainsBefore, AreModest, IsEnough, IsFilledTo, IsRaised, number_in};
+ghost use Rattle.subset_tree.specs.inside.Filling.{AreFilledFrom, AreGains, AreGainsBefore, AreModest, IsEnough};
+ghost use Rattle.subset_tree.specs.inside.Filling.{IsFilledTo, IsRaised, number_in};
 ghost use Rattle.tree_certificate.specs.ColourSet.{place_of};
 ghost use Rattle.tree_certificate.specs.Number.{AreNumbers};
 ghost use Rattle.tree_certificate.specs.TableHolds.{greatest_colours};
@@ -30,14 +32,14 @@ pub(crate) fn fill_table(alloc: Global, graph: &ColourGraph) -> Result<Vec<Vec<i
     let mut vertex = count;
     while vertex > 0 {
         vertex -= 1;
-        let row = row_of(alloc, graph, &rows, vertex as VertexId, &mut gains)?;
+        let row = filled_row(alloc, graph, &rows, vertex as VertexId, &mut gains)?;
         rows[vertex] = row;
     }
     Ok(rows)
 }
 
 /// The numbers of a vertex, where the rows of all later ones are filled.
-fn row_of(
+fn filled_row(
     alloc: Global,
     graph: &ColourGraph,
     rows: &[Vec<i64>],
@@ -52,7 +54,8 @@ fn row_of(
     ensures gains { length gains.new ≡ length gains.old }
     ensures size { IfOk result (λ row. length row.items ≡ 2 ^ (colour_count graph.now - colour_of graph.now vertex)) }
     ensures filled { IfOk result (λ row.
-        IsFilledTo graph.now (map (λ row. row.items) rows.now) vertex (colour_count graph.now - colour_of graph.now vertex) row.items) }
+        IsFilledTo graph.now (map (λ row. row.items) rows.now) vertex
+        (colour_count graph.now - colour_of graph.now vertex) row.items) }
 {
     let count = graph.colour_count() as usize;
     let greater = count - usize::from(graph.colour_of(vertex));
@@ -91,7 +94,8 @@ fn gather_gains(
     requires colour { (0 < colour) × (colour ≤ colour_count graph.now) }
     requires room { length gains.old ≡ 2 ^ (colour_count graph.now - colour) }
     ensures room { length gains.new ≡ length gains.old }
-    ensures exact { AreGainsBefore graph.now (map (λ row. row.items) rows.now) vertex colour (length graph.now.edges) gains.new }
+    ensures exact { AreGainsBefore graph.now (map (λ row. row.items) rows.now) vertex colour (length graph.now.edges)
+        gains.new }
     ensures none { result ≡ false → (place : ℕ) → place < length gains.old
         → number_in gains.new place ≡ negsuc 999999999 }
 {

@@ -13,7 +13,8 @@ heads_rise graph edge later is not_after within = choose (cases_lt edge later)
   where
     choose : (edge < later) ⊎ (later ≤ edge) → (edge_at graph edge).head ≤ (edge_at graph later).head
     choose (inl less) = (is.in_order edge later _ less within).heads
-    choose (inr not_less) = let same : edge ≡ later = omega arith in omega (arith, ap (λ n. (edge_at graph n).head) same)
+    choose (inr not_less) = let same : edge ≡ later = omega arith in
+        omega (arith, ap (λ n. (edge_at graph n).head) same)
 
 colours_rise : (graph : Graph) (vertex later : ℕ) → IsGraph graph → vertex ≤ later → later < length graph.colours
     → colour_of graph vertex ≤ colour_of graph later
@@ -33,7 +34,8 @@ tail_after graph edge other is in_graph other_in_graph joined = choose (cases_lt
     choose (inr not_less) =
         let here = is.edges edge _ in_graph in
         let back = heads_rise graph edge other is not_less other_in_graph in
-        let colours = colours_rise graph (edge_at graph edge).head (edge_at graph edge).tail is (omega (arith, back, joined)) here.tail in
+        let colours = colours_rise graph (edge_at graph edge).head (edge_at graph edge).tail is
+        (omega (arith, back, joined)) here.tail in
         absurd (omega (arith, colours, here.rising))
 
 pub reached_before : (graph : Graph) (edges : List ℕ) (place : ℕ) → IsGraph graph → IsColourful graph edges
@@ -44,20 +46,25 @@ reached_before graph edges place is colourful rising within = choose (colourful.
   where
     choose : IsReached graph edges (edge_at graph (get_or edges place 0)).tail
         → ((edge_at graph (get_or edges place 0)).tail ≡ 0)
-        ⊎ ((k : ℕ) × (k < place) × ((edge_at graph (get_or edges k 0)).head ≡ (edge_at graph (get_or edges place 0)).tail))
+        ⊎ ((k : ℕ) × (k < place) × ((edge_at graph (get_or edges k 0)).head
+        ≡ (edge_at graph (get_or edges place 0)).tail))
     choose (at_root is_root) = inl is_root
     choose (at_head found) =
-        let k_within : found.0 < length edges = omega (arith, found.1, length-map edges (λ edge. (edge_at graph edge).head)) in
+        let k_within : found.0 < length edges =
+        omega (arith, found.1, length-map edges (λ edge. (edge_at graph edge).head)) in
         let joined : (edge_at graph (get_or edges found.0 0)).head ≡ (edge_at graph (get_or edges place 0)).tail =
         sym (get_or-map (λ edge. (edge_at graph edge).head) edges found.0 0 _ k_within) ∙ found.2 in
-        let less = tail_after graph (get_or edges place 0) (get_or edges found.0 0) is (colourful.in_range place 0 within)
+        let less = tail_after graph (get_or edges place 0) (get_or edges found.0 0) is
+        (colourful.in_range place 0 within)
         (colourful.in_range found.0 0 k_within) joined in
         inr (found.0, earlier found.0 k_within less (cases_lt found.0 place), joined)
       where
-        earlier : (k : ℕ) → k < length edges → get_or edges k 0 < get_or edges place 0 → (k < place) ⊎ (place ≤ k) → k < place
+        earlier : (k : ℕ) → k < length edges → get_or edges k 0 < get_or edges place 0 → (k < place) ⊎ (place ≤ k)
+            → k < place
         earlier k k_within less (inl before) = before
         earlier k k_within less (inr not_before) = after (cases_lt place k)
           where
             after : (place < k) ⊎ (k ≤ place) → k < place
             after (inl behind) = absurd (omega (arith, rising place k 0 behind k_within, less))
-            after (inr not_behind) = let same : k ≡ place = omega arith in absurd (omega (arith, ap (λ n. get_or edges n 0) same, less))
+            after (inr not_behind) = let same : k ≡ place = omega arith in
+                absurd (omega (arith, ap (λ n. get_or edges n 0) same, less))

@@ -1,4 +1,5 @@
--- Of rank_cmp: it is a total order, sorted entries are ranked, and ranked entries of different candidates rise strictly.
+-- Of rank_cmp: it is a total order, sorted entries are ranked, and ranked entries of different candidates rise
+-- strictly.
 use Rattle.std.proofs.Common.{◌≡◌, ◌≢◌, ◌∙◌, ℤ, List, true, false, get_or, refl, sym, ap, arith}
 use Rattle.std.specs.Cmp.{IsTotalOrder}
 use Rattle.std.specs.FinMap.{nat_cmp-IsAntisymmetric, slice_cmp-IsAntisymmetric}
@@ -46,13 +47,16 @@ outcome_total = record { antisymm = turned; trans = passed; congr = tied }
 
 pub rank_total : IsTotalOrder rank_cmp
 rank_total =
-    then_total (then_total (on_total (λ (entry : Entry). entry.outcome) outcome_total) (on_total (λ (entry : Entry). entry.error) nat_cmp_total))
+    then_total (then_total (on_total (λ (entry : Entry). entry.outcome) outcome_total)
+    (on_total (λ (entry : Entry). entry.error) nat_cmp_total))
     (on_total (λ (entry : Entry). entry.candidate) nat_list_cmp_total)
 
-pub ranked_from_sorted : (entries : List Entry) → IsSortedBy (λ one other. is_lt (rank_cmp one other)) entries → AreRanked entries
+pub ranked_from_sorted : (entries : List Entry) → IsSortedBy (λ one other. is_lt (rank_cmp one other)) entries
+    → AreRanked entries
 ranked_from_sorted entries in_order i j none earlier within above =
     let not_below : is_lt (rank_cmp (get_or entries j none) (get_or entries i none)) ≡ false =
-    sorted_far (λ one other. is_lt (rank_cmp one other)) (ranks_by rank_total (λ entry. entry)) entries in_order i j none (omega arith) within
+    sorted_far (λ one other. is_lt (rank_cmp one other)) (ranks_by rank_total (λ entry. entry)) entries in_order i j
+    none (omega arith) within
     in
     let below = rank_total.antisymm (get_or entries j none) (get_or entries i none) ∙ ap ordering_reverse above in
     let both : true ≡ false = sym (ap is_lt below) ∙ not_below in
@@ -69,8 +73,10 @@ less_from Less not_above not_tied = refl
 less_from Equal not_above not_tied = absurd (not_tied refl)
 less_from Greater not_above not_tied = absurd (not_above refl)
 
-pub ranked_rises : (entries : List Entry) → AreRanked entries → AllPairs (λ one later. one.candidate ≢ later.candidate) entries
+pub ranked_rises : (entries : List Entry) → AreRanked entries
+    → AllPairs (λ one later. one.candidate ≢ later.candidate) entries
     → AllPairs (λ one later. rank_cmp one later ≡ Less) entries
 ranked_rises entries ranked apart i j none earlier within =
     less_from (rank_cmp (get_or entries i none) (get_or entries j none)) (ranked i j none earlier within)
-    (λ tie. apart i j none earlier within (slice_cmp-IsAntisymmetric nat_cmp-IsAntisymmetric _ _ (tie_of_second _ _ tie)))
+    (λ tie. apart i j none earlier within
+    (slice_cmp-IsAntisymmetric nat_cmp-IsAntisymmetric _ _ (tie_of_second _ _ tie)))

@@ -32,8 +32,8 @@ GapFits graph tree budget Gap =
     greatest_colours < colour_count graph × IsSpent graph tree.cert tree.score tree.upper budget
 
 -- The rows are the graph's, by rising edges; these edges are colourful, and none can be added with gain; the score is
--- theirs; the upper bound is at most the cap of all edges, and the score exactly where the mark says so; the certificate
--- holds for it; and a gap is one that may stand.
+-- theirs; the upper bound is at most the cap of all edges, and the score exactly where the mark says so; the
+-- certificate holds for it; and a gap is one that may stand.
 pub record EntryIsRight (built : LossGraphValue) (tree : TreeValue) (budget : ℕ) : Type 0 where
   pub rows : AreRows built tree.rows
   pub colourful : IsColourful built.graph (edges_of tree.rows)

@@ -17,8 +17,8 @@ row_at rows place =
 abbrev pub head_of : Graph → List TreeRow → ℕ → ℕ
 head_of graph rows place = (edge_at graph (row_at rows place).edge).head
 
--- The parent of a row at a place whose edge begins at a vertex: 0 for the root; else the number, from 1, of the first row
--- whose edge goes there, which is an earlier one.
+-- The parent of a row at a place whose edge begins at a vertex: 0 for the root; else the number, from 1, of the first
+-- row whose edge goes there, which is an earlier one.
 pub data IsParent (graph : Graph) (rows : List TreeRow) (place tail parent : ℕ) : Type 0 where
   of_root : tail ≡ 0 → parent ≡ 0 → IsParent graph rows place tail parent
   of_row : (row : ℕ) → tail ≢ 0 → parent ≡ row + 1 → row < place → head_of graph rows row ≡ tail

@@ -27,7 +27,8 @@ pub enum EntryPlace {
     Loose(i64),
     /// There is a gap, and the total of this leaf, by its node, is above the cap of its set, as no earlier one's is.
     Slack(u32),
-    /// There is a gap, and the cap of the set of this split, by its node, is below the upper bound, as no earlier one's is.
+    /// There is a gap, and the cap of the set of this split, by its node, is below the upper bound, as no earlier one's
+    /// is.
     Wasted(u32),
     /// There is a gap, and the total of this leaf, by its node, is above the score, though its set has at most one edge
     /// into each colour, and no earlier one is so.

@@ -1,6 +1,7 @@
 -- What a number of a table is to be at least, over the numbers of one vertex for the sets of the colours behind one,
 -- and what the edges from it into that colour gain.
-use Rattle.std.specs.Prelude.{◌≡◌, ◌<◌, ◌≤◌, ◌-◌, ◌/◌, ◌%◌, ◌↔◌, ℕ, ℤ, pos, negsuc, ◌+ℤ◌, ◌≤ℤ◌, Bool, List, slice_index_or}
+use Rattle.std.specs.Prelude.{◌≡◌, ◌<◌, ◌≤◌, ◌-◌, ◌/◌, ◌%◌, ◌↔◌, ℕ, ℤ, pos, negsuc, ◌+ℤ◌, ◌≤ℤ◌, Bool, List}
+use Rattle.std.specs.Prelude.{slice_index_or}
 use Rattle.std.specs.Int.Bits.{bit_and}
 use Rattle.colour_graph.specs.Graph.{Graph, edge_at, head_colour}
 use Rattle.tree_certificate.specs.ColourSet.{IsPartOf, place_of, without}

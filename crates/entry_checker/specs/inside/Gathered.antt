@@ -25,7 +25,8 @@ found_with None true node = None
 found_with None false node = Some node
 
 -- what was found among these leaves and splits
-pub record Gathered (graph : Graph) (score upper : ℤ) (leaves : List Leaf) (forks : List Fork) (found : Found) : Type 0 where
+pub record Gathered (graph : Graph) (score upper : ℤ) (leaves : List Leaf) (forks : List Fork)
+    (found : Found) : Type 0 where
   pub slack : IsFound (λ leaf. leaf.node) (IsTight graph) leaves found.first_slack
   pub wasted : IsFound (λ fork. fork.node) (IsUseful graph upper) forks found.first_wasted
   pub decided : IsFound (λ leaf. leaf.node) (CanGoOn graph score) leaves found.first_decided

@@ -1,6 +1,7 @@
 -- What the filling of a table keeps: the numbers of a vertex for the sets of some last colours, and what the edges from
 -- it into the next smaller colour gain.
-use Rattle.std.specs.Prelude.{◌≡◌, ◌≤◌, ◌<◌, ◌+◌, ◌-◌, ◌*◌, ◌^◌, ◌↔◌, ℕ, ℤ, pos, negsuc, ◌+ℤ◌, ◌≤ℤ◌, Bool, true, List, ◌∷◌, length, slice_index_or}
+use Rattle.std.specs.Prelude.{◌≡◌, ◌≤◌, ◌<◌, ◌+◌, ◌-◌, ◌*◌, ◌^◌, ◌↔◌, ℕ, ℤ, pos, negsuc, ◌+ℤ◌, ◌≤ℤ◌, Bool, true, List}
+use Rattle.std.specs.Prelude.{◌∷◌, length, slice_index_or}
 use Rattle.colour_graph.specs.Graph.{Graph, colour_of, colour_count, edge_at, head_colour}
 use Rattle.tree_certificate.specs.ColourSet.{IsPartOf, place_of, without}
 use Rattle.tree_certificate.specs.TableHolds.{HasRow, IsHighEnough, number_of, row_at}
@@ -62,7 +63,8 @@ abbrev pub number_to : ℕ → List ℤ → List Bool → ℤ
 number_to size numbers set = number_in numbers (2 ^ (size - length set) * place_of set)
 
 -- A number is enough for a vertex and the set that has the next smaller colour beside these last ones.
-pub record IsHighTo (graph : Graph) (rows : List (List ℤ)) (vertex size : ℕ) (numbers : List ℤ) (set : List Bool) (upper : ℤ)
+pub record IsHighTo (graph : Graph) (rows : List (List ℤ)) (vertex size : ℕ) (numbers : List ℤ) (set : List Bool)
+    (upper : ℤ)
     : Type 0 where
   pub left_out : number_to size numbers set ≤ℤ upper
   pub taken : (edge : ℕ) → edge < length graph.edges → (edge_at graph edge).tail ≡ vertex

@@ -7,19 +7,23 @@ use Rattle.tree_certificate.proofs.BoundValues.{depth_of_split, splits_of_split}
 use Rattle.certificate_checker.specs.BoundPlaces.{IsBoundPlace, IsVerdictFrom}
 use Rattle.certificate_checker.specs.declared.verdict.Verdict.TheVariants.{Fails, Holds}
 use Rattle.certificate_checker.specs.inside.Sides.{adding}
-use Rattle.certificate_checker.proofs.BoundVerdicts.{behind-in_range, first-undone, said-at, value_split, verdict-first, verdict-second}
+use Rattle.certificate_checker.proofs.BoundVerdicts.{behind-in_range, first-undone, said-at, value_split, verdict-first}
+use Rattle.certificate_checker.proofs.BoundVerdicts.{verdict-second}
 use Rattle.certificate_checker.proofs.SplitSides.{leaving-undone, length-leaving, length-only, split-in_range}
 use Rattle.certificate_checker.proofs.bound.+check_node.Goals as goal
 
 pub check_node-requires : goal.check_node-requires
 check_node-requires t c =
-    let count = splits_of_split c.args.bound.now c.in-Split.colour c.in-Split.part c.in-Split.first c.in-Split.second c.in-Split.is in
-    let deep = depth_of_split c.args.bound.now c.in-Split.colour c.in-Split.part c.in-Split.first c.in-Split.second c.in-Split.is in
+    let count = splits_of_split c.args.bound.now c.in-Split.colour c.in-Split.part c.in-Split.first c.in-Split.second
+    c.in-Split.is in
+    let deep = depth_of_split c.args.bound.now c.in-Split.colour c.in-Split.part c.in-Split.first c.in-Split.second
+    c.in-Split.is in
     let one = ap (λ b. splits_of (bound_value b)) c.get.ensures in
     let other = ap (λ b. depth_of (bound_value b)) c.get.ensures in
     let at : splits_of (bound_value c.args.bound.now) ≡ t = c.decreases in
     let falls : splits_of (bound_value c.get.result.now) < t = omega (arith, count, one, at) in
-    let few : c.args.next.now + 1 + nodes_of (bound_value c.get.result.now) < 4294967296 = omega (arith, count, one, c.requires.few) in
+    let few : c.args.next.now + 1 + nodes_of (bound_value c.get.result.now) < 4294967296 =
+    omega (arith, count, one, c.requires.few) in
     let set_is : IsSetOf c.args.graph.now c.keep_only.new.allowed =
     ap (λ set. length set) c.in_ok-keep_only-in-Split.ensures.only
     ∙ length-only c.args.graph.now c.args.allowed.now c.in-Split.colour c.as_slice-part.result.now ∙ c.requires.set in
@@ -31,11 +35,15 @@ give_back-requires-clause-in_range t c =
     let allowed = c.args.allowed.now in
     let part = c.as_slice-part.result.now in
     let set_is : IsSetOf graph c.check_node.new.allowed =
-    ap (λ set. length set) c.in_ok-side-in-Split.ensures.set ∙ ap (λ set. length set) c.in_ok-keep_only-in-Split.ensures.only
+    ap (λ set. length set) c.in_ok-side-in-Split.ensures.set
+    ∙ ap (λ set. length set) c.in_ok-keep_only-in-Split.ensures.only
     ∙ length-only graph allowed c.in-Split.colour part ∙ c.requires.set in
-    let before_is : c.len-before.result ≡ length c.args.taken.now.items = omega (arith, c.len-before.ensures, c.args.taken.now.ok.0) in
-    behind-in_range graph (leaving allowed part) c.in-Split.colour c.len-before.result c.args.taken.now.items c.check_node.new.taken.items
-    c.check_node.new.allowed set_is before_is (c.in_ok-side-in-Split.ensures.taken ∙ c.in_ok-keep_only-in-Split.ensures.taken)
+    let before_is : c.len-before.result ≡ length c.args.taken.now.items =
+    omega (arith, c.len-before.ensures, c.args.taken.now.ok.0) in
+    behind-in_range graph (leaving allowed part) c.in-Split.colour c.len-before.result c.args.taken.now.items
+    c.check_node.new.taken.items
+    c.check_node.new.allowed set_is before_is (c.in_ok-side-in-Split.ensures.taken
+    ∙ c.in_ok-keep_only-in-Split.ensures.taken)
 
 pub returns-in-Fails-clause-verdict : goal.returns-in-Fails-clause-verdict
 returns-in-Fails-clause-verdict t c =
@@ -45,20 +53,27 @@ returns-in-Fails-clause-verdict t c =
     let part = c.as_slice-part.result.now in
     let first = bound_value c.get.result.now in
     let is_split : IsSplit graph allowed colour part = c.in_default.ensures in
-    let fails : IsBoundPlace graph (only graph allowed colour part) first c.args.upper (c.args.next.now + 1) c.in-Fails.place =
-    said-at graph c.keep_only.new.allowed (only graph allowed colour part) first (to_z w64 (of_z w64 c.args.upper)) c.args.upper (c.args.next.now + 1)
-    c.in_ok-side-in-Split.side (Fails c.in-Fails.place) c.in_ok-keep_only-in-Split.ensures.only (to_z-of_z w64 c.args.upper c.ranges.upper) c.in-Fails.is
+    let fails : IsBoundPlace graph (only graph allowed colour part) first c.args.upper
+    (c.args.next.now + 1) c.in-Fails.place =
+    said-at graph c.keep_only.new.allowed (only graph allowed colour part) first
+    (to_z w64 (of_z w64 c.args.upper)) c.args.upper (c.args.next.now + 1)
+    c.in_ok-side-in-Split.side (Fails c.in-Fails.place) c.in_ok-keep_only-in-Split.ensures.only
+    (to_z-of_z w64 c.args.upper c.ranges.upper) c.in-Fails.is
     c.in_ok-side-in-Split.ensures.verdict in
-    verdict-first graph allowed colour part (bound_value c.args.bound.now) first (bound_value c.in-Split.second) c.args.upper c.args.next.now c.in-Fails.place
-    (value_split c.args.bound.now colour c.in-Split.part part c.in-Split.first c.in-Split.second c.get.result.now c.in-Split.second c.in-Split.is
+    verdict-first graph allowed colour part (bound_value c.args.bound.now) first
+    (bound_value c.in-Split.second) c.args.upper c.args.next.now c.in-Fails.place
+    (value_split c.args.bound.now colour c.in-Split.part part c.in-Split.first c.in-Split.second c.get.result.now
+    c.in-Split.second c.in-Split.is
     c.as_slice-part.ensures c.get.ensures refl) is_split fails
 
 pub returns-in-Fails-clause-set : goal.returns-in-Fails-clause-set
 returns-in-Fails-clause-set t c =
     let graph = c.args.graph.now in
     let allowed = c.args.allowed.now in
-    let before_is : c.len-before.result ≡ length c.args.taken.now.items = omega (arith, c.len-before.ensures, c.args.taken.now.ok.0) in
-    first-undone graph allowed c.check_node.new.allowed c.give_back.new.allowed c.in-Split.colour c.len-before.result c.as_slice-part.result.now
+    let before_is : c.len-before.result ≡ length c.args.taken.now.items =
+    omega (arith, c.len-before.ensures, c.args.taken.now.ok.0) in
+    first-undone graph allowed c.check_node.new.allowed c.give_back.new.allowed c.in-Split.colour c.len-before.result
+    c.as_slice-part.result.now
     c.args.taken.now.items c.check_node.new.taken.items c.requires.set
     (c.in_ok-side-in-Split.ensures.set ∙ c.in_ok-keep_only-in-Split.ensures.only) before_is
     (c.in_ok-side-in-Split.ensures.taken ∙ c.in_ok-keep_only-in-Split.ensures.taken) c.give_back.ensures.given
@@ -69,9 +84,11 @@ take_part-requires t c =
     let allowed = c.args.allowed.now in
     let part = c.as_slice-part.result.now in
     let is_split : IsSplit graph allowed c.in-Split.colour part = c.in_default.ensures in
-    let before_is : c.len-before.result ≡ length c.args.taken.now.items = omega (arith, c.len-before.ensures, c.args.taken.now.ok.0) in
+    let before_is : c.len-before.result ≡ length c.args.taken.now.items =
+    omega (arith, c.len-before.ensures, c.args.taken.now.ok.0) in
     let same : c.give_back.new.allowed ≡ allowed =
-    first-undone graph allowed c.check_node.new.allowed c.give_back.new.allowed c.in-Split.colour c.len-before.result part
+    first-undone graph allowed c.check_node.new.allowed c.give_back.new.allowed c.in-Split.colour c.len-before.result
+    part
     c.args.taken.now.items c.check_node.new.taken.items c.requires.set
     (c.in_ok-side-in-Split.ensures.set ∙ c.in_ok-keep_only-in-Split.ensures.only) before_is
     (c.in_ok-side-in-Split.ensures.taken ∙ c.in_ok-keep_only-in-Split.ensures.taken) c.give_back.ensures.given in
@@ -82,8 +99,10 @@ check_node-requires-in-Split t c =
     let graph = c.args.graph.now in
     let allowed = c.args.allowed.now in
     let part = c.as_slice-part.result.now in
-    let count = splits_of_split c.args.bound.now c.in-Split.colour c.in-Split.part c.in-Split.first c.in-Split.second c.in-Split.is in
-    let deep = depth_of_split c.args.bound.now c.in-Split.colour c.in-Split.part c.in-Split.first c.in-Split.second c.in-Split.is in
+    let count = splits_of_split c.args.bound.now c.in-Split.colour c.in-Split.part c.in-Split.first c.in-Split.second
+    c.in-Split.is in
+    let deep = depth_of_split c.args.bound.now c.in-Split.colour c.in-Split.part c.in-Split.first c.in-Split.second
+    c.in-Split.is in
     let one = ap (λ b. splits_of (bound_value b)) c.get.ensures in
     let two = ap (λ b. splits_of (bound_value b)) c.get-in-Split.ensures in
     let other = ap (λ b. depth_of (bound_value b)) c.get-in-Split.ensures in
@@ -93,14 +112,17 @@ check_node-requires-in-Split t c =
     c.in_ok-side-in-Split.ensures.behind (ap Ok c.in_default-side.is) in
     let few : c.check_node.new.next + nodes_of (bound_value c.get-in-Split.result.now) < 4294967296 =
     omega (arith, count, one, two, behind, c.requires.few) in
-    let before_is : c.len-before.result ≡ length c.args.taken.now.items = omega (arith, c.len-before.ensures, c.args.taken.now.ok.0) in
+    let before_is : c.len-before.result ≡ length c.args.taken.now.items =
+    omega (arith, c.len-before.ensures, c.args.taken.now.ok.0) in
     let same : c.give_back.new.allowed ≡ allowed =
-    first-undone graph allowed c.check_node.new.allowed c.give_back.new.allowed c.in-Split.colour c.len-before.result part
+    first-undone graph allowed c.check_node.new.allowed c.give_back.new.allowed c.in-Split.colour c.len-before.result
+    part
     c.args.taken.now.items c.check_node.new.taken.items c.requires.set
     (c.in_ok-side-in-Split.ensures.set ∙ c.in_ok-keep_only-in-Split.ensures.only) before_is
     (c.in_ok-side-in-Split.ensures.taken ∙ c.in_ok-keep_only-in-Split.ensures.taken) c.give_back.ensures.given in
     let set_is : IsSetOf graph c.take_part.new.allowed =
-    ap (λ set. length set) c.take_part.ensures ∙ length-leaving c.give_back.new.allowed part ∙ ap (λ set. length set) same ∙ c.requires.set in
+    ap (λ set. length set) c.take_part.ensures ∙ length-leaving c.give_back.new.allowed part
+    ∙ ap (λ set. length set) same ∙ c.requires.set in
     (falls, (c.requires.vertices, (omega (arith, deep, other, c.requires.depth), (few, set_is))))
 
 pub put_part-requires : goal.put_part-requires
@@ -109,14 +131,17 @@ put_part-requires t c k d within =
     let allowed = c.args.allowed.now in
     let part = c.as_slice-part.result.now in
     let is_split : IsSplit graph allowed c.in-Split.colour part = c.in_default.ensures in
-    let before_is : c.len-before.result ≡ length c.args.taken.now.items = omega (arith, c.len-before.ensures, c.args.taken.now.ok.0) in
+    let before_is : c.len-before.result ≡ length c.args.taken.now.items =
+    omega (arith, c.len-before.ensures, c.args.taken.now.ok.0) in
     let same : c.give_back.new.allowed ≡ allowed =
-    first-undone graph allowed c.check_node.new.allowed c.give_back.new.allowed c.in-Split.colour c.len-before.result part
+    first-undone graph allowed c.check_node.new.allowed c.give_back.new.allowed c.in-Split.colour c.len-before.result
+    part
     c.args.taken.now.items c.check_node.new.taken.items c.requires.set
     (c.in_ok-side-in-Split.ensures.set ∙ c.in_ok-keep_only-in-Split.ensures.only) before_is
     (c.in_ok-side-in-Split.ensures.taken ∙ c.in_ok-keep_only-in-Split.ensures.taken) c.give_back.ensures.given in
     let long : length c.check_node-in-Split.new.allowed ≡ length allowed =
-    ap (λ set. length set) (c.in_ok-side-in-Split-2.ensures.set ∙ c.take_part.ensures) ∙ length-leaving c.give_back.new.allowed part
+    ap (λ set. length set) (c.in_ok-side-in-Split-2.ensures.set ∙ c.take_part.ensures)
+    ∙ length-leaving c.give_back.new.allowed part
     ∙ ap (λ set. length set) same in
     let named = split-in_range graph allowed c.in-Split.colour part c.requires.set is_split k d within in
     omega (arith, long, named)
@@ -130,34 +155,46 @@ returns-in_ok-side-in-Split-2-clause-verdict t c =
     let first = bound_value c.get.result.now in
     let second = bound_value c.get-in-Split.result.now in
     let is_split : IsSplit graph allowed colour part = c.in_default.ensures in
-    let before_is : c.len-before.result ≡ length c.args.taken.now.items = omega (arith, c.len-before.ensures, c.args.taken.now.ok.0) in
+    let before_is : c.len-before.result ≡ length c.args.taken.now.items =
+    omega (arith, c.len-before.ensures, c.args.taken.now.ok.0) in
     let same : c.give_back.new.allowed ≡ allowed =
-    first-undone graph allowed c.check_node.new.allowed c.give_back.new.allowed c.in-Split.colour c.len-before.result part
+    first-undone graph allowed c.check_node.new.allowed c.give_back.new.allowed c.in-Split.colour c.len-before.result
+    part
     c.args.taken.now.items c.check_node.new.taken.items c.requires.set
     (c.in_ok-side-in-Split.ensures.set ∙ c.in_ok-keep_only-in-Split.ensures.only) before_is
     (c.in_ok-side-in-Split.ensures.taken ∙ c.in_ok-keep_only-in-Split.ensures.taken) c.give_back.ensures.given in
     let upper_is = to_z-of_z w64 c.args.upper c.ranges.upper in
     let holds : BoundHolds graph (only graph allowed colour part) first c.args.upper =
-    said-at graph c.keep_only.new.allowed (only graph allowed colour part) first (to_z w64 (of_z w64 c.args.upper)) c.args.upper (c.args.next.now + 1)
-    c.in_ok-side-in-Split.side Holds c.in_ok-keep_only-in-Split.ensures.only upper_is c.in_default-side.is c.in_ok-side-in-Split.ensures.verdict in
-    let behind : c.check_node.new.next ≡ c.args.next.now + 1 + nodes_of first = c.in_ok-side-in-Split.ensures.behind (ap Ok c.in_default-side.is) in
-    let said : IsVerdictFrom graph (leaving allowed part) second c.args.upper c.check_node.new.next c.in_ok-side-in-Split-2.side =
-    said-at graph c.take_part.new.allowed (leaving allowed part) second (to_z w64 (of_z w64 c.args.upper)) c.args.upper c.check_node.new.next
-    c.in_ok-side-in-Split-2.side c.in_ok-side-in-Split-2.side (c.take_part.ensures ∙ ap (λ set. leaving set part) same) upper_is refl
+    said-at graph c.keep_only.new.allowed (only graph allowed colour part) first
+    (to_z w64 (of_z w64 c.args.upper)) c.args.upper (c.args.next.now + 1)
+    c.in_ok-side-in-Split.side Holds c.in_ok-keep_only-in-Split.ensures.only upper_is c.in_default-side.is
+    c.in_ok-side-in-Split.ensures.verdict in
+    let behind : c.check_node.new.next ≡ c.args.next.now + 1 + nodes_of first =
+    c.in_ok-side-in-Split.ensures.behind (ap Ok c.in_default-side.is) in
+    let said : IsVerdictFrom graph (leaving allowed part) second c.args.upper c.check_node.new.next
+    c.in_ok-side-in-Split-2.side =
+    said-at graph c.take_part.new.allowed (leaving allowed part) second
+    (to_z w64 (of_z w64 c.args.upper)) c.args.upper c.check_node.new.next
+    c.in_ok-side-in-Split-2.side c.in_ok-side-in-Split-2.side (c.take_part.ensures
+    ∙ ap (λ set. leaving set part) same) upper_is refl
     c.in_ok-side-in-Split-2.ensures.verdict in
-    verdict-second graph allowed colour part (bound_value c.args.bound.now) first second c.args.upper c.args.next.now c.check_node.new.next
+    verdict-second graph allowed colour part (bound_value c.args.bound.now) first second c.args.upper c.args.next.now
+    c.check_node.new.next
     c.in_ok-side-in-Split-2.side
-    (value_split c.args.bound.now colour c.in-Split.part part c.in-Split.first c.in-Split.second c.get.result.now c.get-in-Split.result.now c.in-Split.is
+    (value_split c.args.bound.now colour c.in-Split.part part c.in-Split.first c.in-Split.second c.get.result.now
+    c.get-in-Split.result.now c.in-Split.is
     c.as_slice-part.ensures c.get.ensures c.get-in-Split.ensures) is_split holds behind said
 
 pub returns-in_ok-side-in-Split-2-clause-behind : goal.returns-in_ok-side-in-Split-2-clause-behind
 returns-in_ok-side-in-Split-2-clause-behind t c = λ all.
-    let count = splits_of_split c.args.bound.now c.in-Split.colour c.in-Split.part c.in-Split.first c.in-Split.second c.in-Split.is in
+    let count = splits_of_split c.args.bound.now c.in-Split.colour c.in-Split.part c.in-Split.first c.in-Split.second
+    c.in-Split.is in
     let one = ap (λ b. splits_of (bound_value b)) c.get.ensures in
     let two = ap (λ b. splits_of (bound_value b)) c.get-in-Split.ensures in
     let behind : c.check_node.new.next ≡ c.args.next.now + 1 + nodes_of (bound_value c.get.result.now) =
     c.in_ok-side-in-Split.ensures.behind (ap Ok c.in_default-side.is) in
-    let ended : c.check_node-in-Split.new.next ≡ c.check_node.new.next + nodes_of (bound_value c.get-in-Split.result.now) =
+    let ended : c.check_node-in-Split.new.next
+    ≡ c.check_node.new.next + nodes_of (bound_value c.get-in-Split.result.now) =
     c.in_ok-side-in-Split-2.ensures.behind all in
     omega (arith, count, one, two, behind, ended)
 
@@ -167,12 +204,15 @@ returns-in_ok-side-in-Split-2-clause-set t c =
     let allowed = c.args.allowed.now in
     let part = c.as_slice-part.result.now in
     let is_split : IsSplit graph allowed c.in-Split.colour part = c.in_default.ensures in
-    let before_is : c.len-before.result ≡ length c.args.taken.now.items = omega (arith, c.len-before.ensures, c.args.taken.now.ok.0) in
+    let before_is : c.len-before.result ≡ length c.args.taken.now.items =
+    omega (arith, c.len-before.ensures, c.args.taken.now.ok.0) in
     let same : c.give_back.new.allowed ≡ allowed =
-    first-undone graph allowed c.check_node.new.allowed c.give_back.new.allowed c.in-Split.colour c.len-before.result part
+    first-undone graph allowed c.check_node.new.allowed c.give_back.new.allowed c.in-Split.colour c.len-before.result
+    part
     c.args.taken.now.items c.check_node.new.taken.items c.requires.set
     (c.in_ok-side-in-Split.ensures.set ∙ c.in_ok-keep_only-in-Split.ensures.only) before_is
     (c.in_ok-side-in-Split.ensures.taken ∙ c.in_ok-keep_only-in-Split.ensures.taken) c.give_back.ensures.given in
     c.put_part.ensures
-    ∙ ap (λ set. adding set part) (c.in_ok-side-in-Split-2.ensures.set ∙ c.take_part.ensures ∙ ap (λ set. leaving set part) same)
+    ∙ ap (λ set. adding set part) (c.in_ok-side-in-Split-2.ensures.set ∙ c.take_part.ensures
+    ∙ ap (λ set. leaving set part) same)
     ∙ leaving-undone graph allowed c.in-Split.colour part is_split

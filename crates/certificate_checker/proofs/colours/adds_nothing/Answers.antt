@@ -6,7 +6,8 @@ use Rattle.certificate_checker.proofs.colours.adds_nothing.Goals as goal
 pub adds_nothing_from-requires-clause-block : goal.adds_nothing_from-requires-clause-block
 adds_nothing_from-requires-clause-block c =
     let known = c.loop-base.invariant in
-    block_within c.loop-base.base c.args.colour (length c.args.own.now) known.block c.requires.blocks.1 c.loop-base-test.true
+    block_within c.loop-base.base c.args.colour
+    (length c.args.own.now) known.block c.requires.blocks.1 c.loop-base-test.true
 
 pub loop-base-init : goal.loop-base-init
 loop-base-init c =

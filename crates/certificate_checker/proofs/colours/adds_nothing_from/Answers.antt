@@ -21,4 +21,5 @@ loop-place-preserved c =
     let gained = gain_is (place - colour) less in
     let left = number_is (place - colour) less in
     adds_nothing-more own gains c.args.base place colour c.loop-place.invariant
-    (rw (gain_is place in_own, gained, number_is place in_own, left) at (c.is_no_gain.ensures c.if-not-is_no_gain.false))
+    (rw (gain_is place in_own, gained, number_is place in_own, left) at
+    (c.is_no_gain.ensures c.if-not-is_no_gain.false))

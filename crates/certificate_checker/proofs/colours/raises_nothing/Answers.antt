@@ -6,7 +6,8 @@ use Rattle.certificate_checker.proofs.colours.raises_nothing.Goals as goal
 pub raises_nothing_from-requires-clause-block : goal.raises_nothing_from-requires-clause-block
 raises_nothing_from-requires-clause-block c =
     let known = c.loop-base.invariant in
-    block_within c.loop-base.base c.args.colour (length c.args.numbers.now) known.block c.requires.blocks.1 c.loop-base-test.true
+    block_within c.loop-base.base c.args.colour (length c.args.numbers.now) known.block c.requires.blocks.1
+    c.loop-base-test.true
 
 pub loop-base-init : goal.loop-base-init
 loop-base-init c =

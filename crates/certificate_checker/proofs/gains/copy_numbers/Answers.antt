@@ -14,7 +14,8 @@ within step place count long below some is =
     omega (arith, product, turned, is)
 
 pub bounds-row-step : goal.bounds-row-step
-bounds-row-step c = within c.args.step c.loop-place.place (length c.args.own.now) (length c.args.row.now) (omega arith) c.requires.step.0 c.requires.room
+bounds-row-step c = within c.args.step c.loop-place.place (length c.args.own.now) (length c.args.row.now)
+    (omega arith) c.requires.step.0 c.requires.room
 
 pub loop-place-preserved : goal.loop-place-preserved
 loop-place-preserved c =
@@ -22,8 +23,10 @@ loop-place-preserved c =
     let step = c.args.step in
     let place = c.loop-place.place in
     let room : place < length c.loop-place.own = omega (arith, c.loop-place.invariant.long) in
-    let in_row : step * place < length row = within step place (length c.args.own.now) (length row) (omega arith) c.requires.step.0 c.requires.room in
-    let number_is = to_z-of_z w64 (number_in row (step * place)) (SFits-number (number_in row (step * place)) (c.requires.numbers (step * place) in_row)) in
+    let in_row : step * place < length row =
+    within step place (length c.args.own.now) (length row) (omega arith) c.requires.step.0 c.requires.room in
+    let number_is = to_z-of_z w64 (number_in row (step * place))
+    (SFits-number (number_in row (step * place)) (c.requires.numbers (step * place) in_row)) in
     record {
       long = length-set c.loop-place.own place _ ∙ c.loop-place.invariant.long;
       copied = copied-more c.loop-place.own row step place _ room number_is c.loop-place.invariant.copied;

@@ -1,4 +1,5 @@
-use Rattle.std.proofs.Common.{◌≡◌, ◌≢◌, ◌∙◌, ◌-◌, ◌^◌, ◌<◌, ◌≤◌, ◌+ℤ◌, ℕ, ℤ, List, length, map, ap, sym, refl, arith, w32}
+use Rattle.std.proofs.Common.{◌≡◌, ◌≢◌, ◌∙◌, ◌-◌, ◌^◌, ◌<◌, ◌≤◌, ◌+ℤ◌, ℕ, ℤ, List, length, map, ap, sym, refl, arith}
+use Rattle.std.proofs.Common.{w32}
 use Rattle.std.proofs.lemmas.Bool.{false≢true, true≢false}
 use Rattle.std.proofs.lemmas.Int.{to_z-of_z}
 use Rattle.colour_graph.specs.EdgeSet.{AreInto}
@@ -8,13 +9,16 @@ use Rattle.tree_certificate.specs.Number.{AreNumbers}
 use Rattle.tree_certificate.specs.TableHolds.{FitsGraph, row_at}
 use Rattle.certificate_checker.specs.inside.Enough.{AreNumbersBelow, IsRaised, number_in}
 use Rattle.certificate_checker.proofs.PartWalk.{SFits-score, raised-as}
-use Rattle.certificate_checker.proofs.Raising.{cleared, cleared-none, gain-set, gains-first, gains-last, gains-with, gains-without, raised-cleared}
+use Rattle.certificate_checker.proofs.Raising.{cleared, cleared-none, gain-set, gains-first, gains-last, gains-with}
+use Rattle.certificate_checker.proofs.Raising.{gains-without, raised-cleared}
 use Rattle.certificate_checker.proofs.TableNumbers.{numbers-row, row-few}
 use Rattle.certificate_checker.proofs.gains.gather_gains.Goals as goal
-use Rattle.certificate_checker.proofs.gains.gather_gains.Goals.{then-edge-vertex+then-any, then-edge-vertex+else-any, else-edge-vertex}
+use Rattle.certificate_checker.proofs.gains.gather_gains.Goals.{then-edge-vertex+then-any, then-edge-vertex+else-any}
+use Rattle.certificate_checker.proofs.gains.gather_gains.Goals.{else-edge-vertex}
 
 -- what is known of an edge into a colour and of the numbers of its head
-record IsHead (graph : Graph) (rows : List (List ℤ)) (colour place count : ℕ) (edge : Edge) (numbers : List ℤ) : Type 0 where
+record IsHead (graph : Graph) (rows : List (List ℤ)) (colour place count : ℕ) (edge : Edge)
+    (numbers : List ℤ) : Type 0 where
   there : head_colour graph place ≡ colour
   score : IsScore edge.weight
   weight_is : edge.weight ≡ (edge_at graph place).weight
@@ -23,18 +27,22 @@ record IsHead (graph : Graph) (rows : List (List ℤ)) (colour place count : ℕ
   few : length numbers ≤ 4096
   long : length numbers ≡ count
 
-head_is : (graph : Graph) (rows : List (List ℤ)) (colour first past place from count : ℕ) (edge : Edge) (numbers : List ℤ) → FitsGraph graph rows → AreNumbers rows
-    → AreInto graph colour first past → first ≤ place → place < past → edge ≡ edge_at graph place → IsEdge graph edge → count ≡ 2 ^ (colour_count graph - colour)
+head_is : (graph : Graph) (rows : List (List ℤ)) (colour first past place from count : ℕ) (edge : Edge)
+    (numbers : List ℤ) → FitsGraph graph rows → AreNumbers rows
+    → AreInto graph colour first past → first ≤ place → place < past → edge ≡ edge_at graph place → IsEdge graph edge
+    → count ≡ 2 ^ (colour_count graph - colour)
     → from ≡ edge.head → numbers ≡ row_at rows from → IsHead graph rows colour place count edge numbers
-head_is graph rows colour first past place from count edge numbers fits are into low up edge_is is_edge count_is from_is numbers_is = record {
-  there = there;
-  score = is_edge.weight;
-  weight_is = ap (λ (e : Edge). e.weight) edge_is;
-  numbers_are = row_is ∙ ap (λ (e : Edge). row_at rows e.head) edge_is;
-  near = rw row_is (numbers-row rows edge.head are (fits.each edge.head is_edge.head).0);
-  few = rw row_is (row-few graph rows edge.head fits is_edge.head);
-  long = ap (λ (r : List ℤ). length r) row_is ∙ (fits.each edge.head is_edge.head).1 ∙ ap (λ n. 2 ^ (colour_count graph - n)) head_there ∙ sym count_is;
-}
+head_is graph rows colour first past place from count edge numbers fits are into low up edge_is is_edge count_is from_is
+    numbers_is = record {
+      there = there;
+      score = is_edge.weight;
+      weight_is = ap (λ (e : Edge). e.weight) edge_is;
+      numbers_are = row_is ∙ ap (λ (e : Edge). row_at rows e.head) edge_is;
+      near = rw row_is (numbers-row rows edge.head are (fits.each edge.head is_edge.head).0);
+      few = rw row_is (row-few graph rows edge.head fits is_edge.head);
+      long = ap (λ (r : List ℤ). length r) row_is ∙ (fits.each edge.head is_edge.head).1
+          ∙ ap (λ n. 2 ^ (colour_count graph - n)) head_there ∙ sym count_is;
+    }
   where
     in_graph : place < length graph.edges
     in_graph = omega (arith, into.within, up)
@@ -52,17 +60,22 @@ pub loop-place-init : goal.loop-place-init
 loop-place-init c = record {
   long = refl;
   gained = λ is. absurd (false≢true is);
-  none = λ is clear none. gains-first c.args.graph.now _ c.args.vertex c.args.colour c.edges_into-first.result.0 c.edges_into-first.result.1 (length c.args.gains.now) clear
+  none = λ is clear none. gains-first c.args.graph.now _ c.args.vertex c.args.colour c.edges_into-first.result.0
+      c.edges_into-first.result.1 (length c.args.gains.now) clear
       c.edges_into-first.ensures none;
 }
 
 pub raise_gains-requires : goal.raise_gains-requires
 raise_gains-requires c =
-    let head = head_is c.args.graph.now (map (λ row. row.items) c.args.rows.now) c.args.colour c.edges_into-first.result.0 c.edges_into-first.result.1 c.loop-place.place c.from.result
-    (length c.args.gains.now) c.edge_at-edge.result c.row_of-numbers.result.now c.requires.fits c.requires.numbers c.edges_into-first.ensures c.loop-place.auto.place c.loop-place-test.true
-    c.edge_at-edge.ensures.edge c.edge_at-edge.ensures.is_edge c.requires.room c.from.ensures c.row_of-numbers.ensures in
+    let head = head_is c.args.graph.now (map (λ row. row.items) c.args.rows.now) c.args.colour
+    c.edges_into-first.result.0 c.edges_into-first.result.1 c.loop-place.place c.from.result
+    (length c.args.gains.now) c.edge_at-edge.result c.numbers_of-numbers.result.now c.requires.fits c.requires.numbers
+    c.edges_into-first.ensures c.loop-place.auto.place c.loop-place-test.true
+    c.edge_at-edge.ensures.edge c.edge_at-edge.ensures.is_edge c.requires.room c.from.ensures
+    c.numbers_of-numbers.ensures in
     record {
-      weight = rw (to_z-of_z w32 c.edge_at-edge.result.weight (SFits-score c.edge_at-edge.result.weight head.score)) head.score;
+      weight = rw (to_z-of_z w32 c.edge_at-edge.result.weight (SFits-score c.edge_at-edge.result.weight head.score))
+          head.score;
       numbers = head.near;
       few = head.few;
       room = head.long ∙ sym c.loop-place.invariant.long;
@@ -71,11 +84,15 @@ raise_gains-requires c =
 
 pub set_gains-requires : goal.set_gains-requires
 set_gains-requires c =
-    let head = head_is c.args.graph.now (map (λ row. row.items) c.args.rows.now) c.args.colour c.edges_into-first.result.0 c.edges_into-first.result.1 c.loop-place.place c.from.result
-    (length c.args.gains.now) c.edge_at-edge.result c.row_of-numbers.result.now c.requires.fits c.requires.numbers c.edges_into-first.ensures c.loop-place.auto.place c.loop-place-test.true
-    c.edge_at-edge.ensures.edge c.edge_at-edge.ensures.is_edge c.requires.room c.from.ensures c.row_of-numbers.ensures in
+    let head = head_is c.args.graph.now (map (λ row. row.items) c.args.rows.now) c.args.colour
+    c.edges_into-first.result.0 c.edges_into-first.result.1 c.loop-place.place c.from.result
+    (length c.args.gains.now) c.edge_at-edge.result c.numbers_of-numbers.result.now c.requires.fits c.requires.numbers
+    c.edges_into-first.ensures c.loop-place.auto.place c.loop-place-test.true
+    c.edge_at-edge.ensures.edge c.edge_at-edge.ensures.is_edge c.requires.room c.from.ensures
+    c.numbers_of-numbers.ensures in
     record {
-      weight = rw (to_z-of_z w32 c.edge_at-edge.result.weight (SFits-score c.edge_at-edge.result.weight head.score)) head.score;
+      weight = rw (to_z-of_z w32 c.edge_at-edge.result.weight (SFits-score c.edge_at-edge.result.weight head.score))
+          head.score;
       numbers = head.near;
       few = head.few;
       room = head.long ∙ sym c.loop-place.invariant.long;
@@ -91,46 +108,69 @@ loop-place-preserved c =
     let weight : ℤ = c.edge_at-edge.result.weight in
     elim c.if-edge-vertex.branch [
       | then-edge-vertex+then-any w ↦
-          let head = head_is c.args.graph.now (map (λ row. row.items) c.args.rows.now) c.args.colour c.edges_into-first.result.0 c.edges_into-first.result.1 c.loop-place.place w.from.result
-          (length c.args.gains.now) c.edge_at-edge.result w.row_of-numbers.result.now c.requires.fits c.requires.numbers c.edges_into-first.ensures c.loop-place.auto.place c.loop-place-test.true
-          c.edge_at-edge.ensures.edge c.edge_at-edge.ensures.is_edge c.requires.room w.from.ensures w.row_of-numbers.ensures in
-          let tail_is : (edge_at graph place).tail ≡ c.args.vertex = sym (ap (λ (e : Edge). e.tail) c.edge_at-edge.ensures.edge) ∙ w.if-edge-vertex.true in
+          let head = head_is c.args.graph.now
+          (map (λ row. row.items) c.args.rows.now) c.args.colour c.edges_into-first.result.0
+          c.edges_into-first.result.1 c.loop-place.place w.from.result
+          (length c.args.gains.now) c.edge_at-edge.result w.numbers_of-numbers.result.now c.requires.fits
+          c.requires.numbers c.edges_into-first.ensures c.loop-place.auto.place c.loop-place-test.true
+          c.edge_at-edge.ensures.edge c.edge_at-edge.ensures.is_edge c.requires.room w.from.ensures
+          w.numbers_of-numbers.ensures in
+          let tail_is : (edge_at graph place).tail ≡ c.args.vertex =
+          sym (ap (λ (e : Edge). e.tail) c.edge_at-edge.ensures.edge) ∙ w.if-edge-vertex.true in
           let weight_is = to_z-of_z w32 weight (SFits-score weight head.score) ∙ head.weight_is in
           let raised : (p : ℕ) → p < count
-          → IsRaised (number_in w.raise_gains.new.gains p) (number_in c.loop-place.gains p) (edge_at graph place).weight (number_in (row_at rows (edge_at graph place).head) p) =
-          λ p within. raised-as _ _ _ _ _ _ _ _ refl refl weight_is (ap (λ (r : List ℤ). number_in r p) head.numbers_are) (w.raise_gains.ensures.raised p (omega (arith, known.long, within))) in
+          → IsRaised (number_in w.raise_gains.new.gains p) (number_in c.loop-place.gains p) (edge_at graph place).weight
+          (number_in (row_at rows (edge_at graph place).head) p) =
+          λ p within. raised-as _ _ _ _ _ _ _ _ refl refl weight_is
+          (ap (λ (r : List ℤ). number_in r p) head.numbers_are)
+          (w.raise_gains.ensures.raised p (omega (arith, known.long, within))) in
           rw w.gains-is (record {
             long = w.raise_gains.ensures.length ∙ known.long;
-            gained = λ is. gains-with graph rows c.args.vertex c.args.colour place count c.loop-place.gains w.raise_gains.new.gains tail_is head.there (known.gained w.if-any.true)
+            gained = λ is. gains-with graph rows c.args.vertex c.args.colour place count c.loop-place.gains
+                w.raise_gains.new.gains tail_is head.there (known.gained w.if-any.true)
                 (rw known.long at w.raise_gains.ensures.gains) raised;
             none = λ is. absurd (true≢false (sym w.any-is ∙ is));
           })
       | then-edge-vertex+else-any w ↦
-          let head = head_is c.args.graph.now (map (λ row. row.items) c.args.rows.now) c.args.colour c.edges_into-first.result.0 c.edges_into-first.result.1 c.loop-place.place w.from.result
-          (length c.args.gains.now) c.edge_at-edge.result w.row_of-numbers.result.now c.requires.fits c.requires.numbers c.edges_into-first.ensures c.loop-place.auto.place c.loop-place-test.true
-          c.edge_at-edge.ensures.edge c.edge_at-edge.ensures.is_edge c.requires.room w.from.ensures w.row_of-numbers.ensures in
-          let tail_is : (edge_at graph place).tail ≡ c.args.vertex = sym (ap (λ (e : Edge). e.tail) c.edge_at-edge.ensures.edge) ∙ w.if-edge-vertex.true in
+          let head = head_is c.args.graph.now
+          (map (λ row. row.items) c.args.rows.now) c.args.colour c.edges_into-first.result.0
+          c.edges_into-first.result.1 c.loop-place.place w.from.result
+          (length c.args.gains.now) c.edge_at-edge.result w.numbers_of-numbers.result.now c.requires.fits
+          c.requires.numbers c.edges_into-first.ensures c.loop-place.auto.place c.loop-place-test.true
+          c.edge_at-edge.ensures.edge c.edge_at-edge.ensures.is_edge c.requires.room w.from.ensures
+          w.numbers_of-numbers.ensures in
+          let tail_is : (edge_at graph place).tail ≡ c.args.vertex =
+          sym (ap (λ (e : Edge). e.tail) c.edge_at-edge.ensures.edge) ∙ w.if-edge-vertex.true in
           let weight_is = to_z-of_z w32 weight (SFits-score weight head.score) in
-          let numbers : List ℤ = w.row_of-numbers.result.now in
+          let numbers : List ℤ = w.numbers_of-numbers.result.now in
           let set_is : (p : ℕ) → p < count → number_in w.set_gains.new.gains p ≡ weight +ℤ number_in numbers p =
-          λ p within. w.set_gains.ensures.set p (omega (arith, known.long, within)) ∙ ap (λ n. n +ℤ number_in numbers p) weight_is in
+          λ p within. w.set_gains.ensures.set p (omega (arith, known.long, within))
+          ∙ ap (λ n. n +ℤ number_in numbers p) weight_is in
           let raised : (p : ℕ) → p < count
-          → IsRaised (number_in w.set_gains.new.gains p) (number_in (cleared count) p) (edge_at graph place).weight (number_in (row_at rows (edge_at graph place).head) p) =
-          λ p within. raised-as _ _ _ _ _ _ _ _ refl refl head.weight_is (ap (λ (r : List ℤ). number_in r p) head.numbers_are)
-          (raised-cleared _ weight (number_in numbers p) p count within head.score (head.near p (omega (arith, head.long, within))) (set_is p within)) in
+          → IsRaised (number_in w.set_gains.new.gains p) (number_in (cleared count) p) (edge_at graph place).weight
+          (number_in (row_at rows (edge_at graph place).head) p) =
+          λ p within. raised-as _ _ _ _ _ _ _ _ refl refl head.weight_is
+          (ap (λ (r : List ℤ). number_in r p) head.numbers_are)
+          (raised-cleared _ weight (number_in numbers p) p count within head.score
+          (head.near p (omega (arith, head.long, within))) (set_is p within)) in
           rw w.gains-is (record {
             long = w.set_gains.ensures.length ∙ known.long;
-            gained = λ is. gains-with graph rows c.args.vertex c.args.colour place count (cleared count) w.set_gains.new.gains tail_is head.there
+            gained = λ is. gains-with graph rows c.args.vertex c.args.colour place count
+                (cleared count) w.set_gains.new.gains tail_is head.there
                 (known.none w.if-any.false (cleared count) (cleared-none count))
-                (λ p within. gain-set _ weight (number_in numbers p) head.score (head.near p (omega (arith, head.long, within))) (set_is p within)) raised;
+                (λ p within. gain-set _ weight (number_in numbers p) head.score
+                (head.near p (omega (arith, head.long, within))) (set_is p within)) raised;
             none = λ is. absurd (true≢false (sym w.any-is ∙ is));
           })
       | else-edge-vertex w ↦
-          let apart : (edge_at graph place).tail ≢ c.args.vertex = λ is. w.if-edge-vertex.false (ap (λ (e : Edge). e.tail) c.edge_at-edge.ensures.edge ∙ is) in
+          let apart : (edge_at graph place).tail ≢ c.args.vertex =
+          λ is. w.if-edge-vertex.false (ap (λ (e : Edge). e.tail) c.edge_at-edge.ensures.edge ∙ is) in
           rw w.gains-is (record {
             long = known.long;
-            gained = λ is. gains-without graph rows c.args.vertex c.args.colour place count c.loop-place.gains apart (known.gained (sym w.any-is ∙ is));
-            none = λ is clear none. gains-without graph rows c.args.vertex c.args.colour place count clear apart (known.none (sym w.any-is ∙ is) clear none);
+            gained = λ is. gains-without graph rows c.args.vertex c.args.colour place count c.loop-place.gains apart
+                (known.gained (sym w.any-is ∙ is));
+            none = λ is clear none. gains-without graph rows c.args.vertex c.args.colour place count clear apart
+                (known.none (sym w.any-is ∙ is) clear none);
           })
     ]
 
@@ -139,8 +179,11 @@ returns-then-not-any c =
     let last : c.loop-place.place ≡ c.edges_into-first.result.1 = omega (arith, c.edges_into-first.ensures.in_order) in
     record {
       room = c.clear_gains.ensures.length ∙ c.loop-place.invariant.long;
-      gains = gains-last c.args.graph.now _ c.args.vertex c.args.colour c.edges_into-first.result.0 c.edges_into-first.result.1 (length c.args.gains.now) c.clear_gains.new.gains
-          c.edges_into-first.ensures (rw last at (c.loop-place.invariant.none c.if-not-any.true _ (rw c.loop-place.invariant.long at c.clear_gains.ensures.clear)));
+      gains = gains-last c.args.graph.now _ c.args.vertex c.args.colour c.edges_into-first.result.0
+          c.edges_into-first.result.1 (length c.args.gains.now) c.clear_gains.new.gains
+          c.edges_into-first.ensures (rw last at
+          (c.loop-place.invariant.none c.if-not-any.true _
+          (rw c.loop-place.invariant.long at c.clear_gains.ensures.clear)));
       none = λ is. rw c.loop-place.invariant.long at c.clear_gains.ensures.clear;
     }
 
@@ -149,7 +192,8 @@ returns-else-not-any c =
     let last : c.loop-place.place ≡ c.edges_into-first.result.1 = omega (arith, c.edges_into-first.ensures.in_order) in
     record {
       room = c.loop-place.invariant.long;
-      gains = gains-last c.args.graph.now _ c.args.vertex c.args.colour c.edges_into-first.result.0 c.edges_into-first.result.1 (length c.args.gains.now) c.loop-place.gains
+      gains = gains-last c.args.graph.now _ c.args.vertex c.args.colour c.edges_into-first.result.0
+          c.edges_into-first.result.1 (length c.args.gains.now) c.loop-place.gains
           c.edges_into-first.ensures (rw last at (c.loop-place.invariant.gained c.if-not-any.false));
       none = λ is. absurd (true≢false (sym c.if-not-any.false ∙ is));
     }

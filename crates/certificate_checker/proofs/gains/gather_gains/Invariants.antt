@@ -5,7 +5,8 @@ use Rattle.certificate_checker.proofs.gains.gather_gains.Given as goal
 abbrev pub invariant-loop-place : goal.invariant-loop-place
 invariant-loop-place l = record {
   long : length l.gains ≡ length l.fn.gains;
-  gained : l.any ≡ true → AreGainsBefore l.graph (map (λ row. row.items) l.rows) l.vertex l.colour l.place (length l.fn.gains) l.gains;
+  gained : l.any ≡ true → AreGainsBefore l.graph (map (λ row. row.items) l.rows) l.vertex l.colour l.place
+      (length l.fn.gains) l.gains;
   none : l.any ≡ false → (clear : List ℤ) → AreNoGains clear (length l.fn.gains)
       → AreGainsBefore l.graph (map (λ row. row.items) l.rows) l.vertex l.colour l.place (length l.fn.gains) clear;
 }

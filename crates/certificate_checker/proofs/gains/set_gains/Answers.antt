@@ -16,10 +16,13 @@ loop-place-preserved c =
     let room : place < length gains = omega (arith, known.long, c.loop-place-test.true, c.requires.room) in
     let near = c.requires.numbers place c.loop-place-test.true in
     let weight_is = to_z-of_z w32 weight c.ranges.weight in
-    let wide_is : to_z w64 (of_z w64 c.from.result) ≡ weight = to_z-of_z w64 c.from.result (record { sfits = c.from.type_inv }) ∙ c.from.ensures ∙ weight_is in
+    let wide_is : to_z w64 (of_z w64 c.from.result) ≡ weight =
+    to_z-of_z w64 c.from.result (record { sfits = c.from.type_inv }) ∙ c.from.ensures ∙ weight_is in
     let number_is = to_z-of_z w64 number (SFits-number number near) in
-    let sum_is : to_z w64 (of_z w64 (to_z w64 (of_z w64 c.from.result) +ℤ to_z w64 (of_z w64 number))) ≡ weight +ℤ number =
-    ap (λ n. to_z w64 (of_z w64 (n +ℤ to_z w64 (of_z w64 number)))) wide_is ∙ ap (λ n. to_z w64 (of_z w64 (weight +ℤ n))) number_is
+    let sum_is : to_z w64 (of_z w64 (to_z w64 (of_z w64 c.from.result) +ℤ to_z w64 (of_z w64 number)))
+    ≡ weight +ℤ number =
+    ap (λ n. to_z w64 (of_z w64 (n +ℤ to_z w64 (of_z w64 number)))) wide_is
+    ∙ ap (λ n. to_z w64 (of_z w64 (weight +ℤ n))) number_is
     ∙ to_z-of_z w64 (weight +ℤ number) (SFits-total weight number c.requires.weight near) in
     rw (weight_is) (record {
       long = length-set gains place _ ∙ known.long;

@@ -29,9 +29,11 @@ loop-before-preserved c =
     record {
       needs_long = c.add_gains.ensures.needs_long ∙ known.needs_long;
       gains_long = c.add_gains.ensures.gains_long ∙ c.gather_best.ensures.long ∙ known.gains_long;
-      needed = needed-more c.args.graph.now c.args.allowed.now c.args.cert.now before (before + 1) needed gains more (omega arith)
+      needed = needed-more c.args.graph.now c.args.allowed.now c.args.cert.now before (before + 1) needed gains more
+          (omega arith)
           c.add_gains.ensures.needs_long long known.needed c.gather_best.ensures.gains c.add_gains.ensures.added;
-      needs = needs-more before needed gains more c.add_gains.ensures.needs_long long known.needs c.gather_best.ensures.near
+      needs = needs-more before needed gains more c.add_gains.ensures.needs_long long known.needs
+          c.gather_best.ensures.near
           c.add_gains.ensures.added;
       clear = c.add_gains.ensures.clear;
     }

@@ -11,14 +11,18 @@ returns-then-row-place c = λ gains none.
     let own = c.args.own.now in
     let set = c.loop-set.set in
     let place = c.args.step * (1 + 2 * set) in
-    let within : place < length row = set-in_row c.args.step set (length own) (length row) c.loop-set-test.true c.requires.step.0 c.requires.row in
-    let held_is = to_z-of_z w64 (number_in row place) (SFits-number (number_in row place) (c.requires.held place within)) in
-    let needed_is = to_z-of_z w64 (number_in own set) (SFits-number (number_in own set) (c.requires.numbers set c.loop-set-test.true)) in
+    let within : place < length row = set-in_row c.args.step set (length own)
+    (length row) c.loop-set-test.true c.requires.step.0 c.requires.row in
+    let held_is = to_z-of_z w64 (number_in row place)
+    (SFits-number (number_in row place) (c.requires.held place within)) in
+    let needed_is = to_z-of_z w64 (number_in own set)
+    (SFits-number (number_in own set) (c.requires.numbers set c.loop-set-test.true)) in
     rw needed_is (record {
       set = set;
       counted = c.loop-set-test.true;
       place = refl;
-      needed = λ colours at. enough-none own gains colours set (length own) at c.loop-set-test.true c.requires.numbers none;
+      needed = λ colours at. enough-none own gains colours set
+          (length own) at c.loop-set-test.true c.requires.numbers none;
       is_low = less-as _ _ (number_in row place) (number_in own set) held_is needed_is c.if-row-place.true;
       before = c.loop-set.invariant gains none;
     })
@@ -29,9 +33,12 @@ loop-set-preserved c = λ gains none.
     let own = c.args.own.now in
     let set = c.loop-set.set in
     let place = c.args.step * (1 + 2 * set) in
-    let within : place < length row = set-in_row c.args.step set (length own) (length row) c.loop-set-test.true c.requires.step.0 c.requires.row in
-    let held_is = to_z-of_z w64 (number_in row place) (SFits-number (number_in row place) (c.requires.held place within)) in
-    let needed_is = to_z-of_z w64 (number_in own set) (SFits-number (number_in own set) (c.requires.numbers set c.loop-set-test.true)) in
+    let within : place < length row = set-in_row c.args.step set (length own)
+    (length row) c.loop-set-test.true c.requires.step.0 c.requires.row in
+    let held_is = to_z-of_z w64 (number_in row place)
+    (SFits-number (number_in row place) (c.requires.held place within)) in
+    let needed_is = to_z-of_z w64 (number_in own set)
+    (SFits-number (number_in own set) (c.requires.numbers set c.loop-set-test.true)) in
     enough-next row own gains c.args.step set (number_in own set) (c.loop-set.invariant gains none)
     (λ colours at. enough-none own gains colours set (length own) at c.loop-set-test.true c.requires.numbers none)
     (not_less-as _ _ (number_in row place) (number_in own set) held_is needed_is c.if-row-place.false)

@@ -1,4 +1,5 @@
-use Rattle.std.proofs.Common.{◌≡◌, ◌∙◌, ◌+◌, ◌-◌, ℤ, pos, List, length-append, length-drop, length-take, map, ap, refl, arith, w64}
+use Rattle.std.proofs.Common.{◌≡◌, ◌∙◌, ◌+◌, ◌-◌, ℤ, pos, List, length-append, length-drop, length-take, map, ap, refl}
+use Rattle.std.proofs.Common.{arith, w64}
 use Rattle.std.proofs.lemmas.Grind.{common_steps}
 use Rattle.std.proofs.lemmas.Int.{to_z-of_z}
 use Rattle.colour_graph.specs.Graph.{colour_count, colour_of}
@@ -88,7 +89,8 @@ loop-size-preserved c =
     record {
       own = first_of (grind (arith, common_steps), omega (arith, length-append {A = ℤ}, length-drop {A = ℤ}));
       gains = first_of (grind (arith, common_steps), omega (arith, length-append {A = ℤ}, length-drop {A = ℤ}));
-      found = found_earlier c.args.graph.now (map (λ row. row.items) c.args.rows.now) c.args.vertex c.loop-size.size (c.loop-size.size + 1) (omega arith) c.loop-size.first c.first_low_of_size-found.result c.earlier-first.result
+      found = found_earlier c.args.graph.now (map (λ row. row.items) c.args.rows.now) c.args.vertex c.loop-size.size
+          (c.loop-size.size + 1) (omega arith) c.loop-size.first c.first_low_of_size-found.result c.earlier-first.result
           known.found c.first_low_of_size-found.ensures.found c.earlier-first.ensures;
     }
 
@@ -97,8 +99,15 @@ returns-clause-found c =
     let graph = c.args.graph.now in
     let rows = map (λ row. row.items) c.args.rows.now in
     let vertex = c.args.vertex in
-    let is : c.row_of.result.now ≡ row_at rows vertex = c.row_of.ensures ∙ ap (λ v. row_at rows v) c.from.ensures in
-    let near : IsNumber (number_at rows vertex 0) = numbers-row rows vertex c.requires.numbers (c.requires.fits.each vertex c.requires.vertex).0 0 (row-some graph rows vertex c.requires.fits c.requires.vertex) in
-    let last : c.loop-size.size ≡ colour_count graph - colour_of graph vertex = omega (arith, c.colour_count.ensures, c.colour_of.ensures.colour, c.from-2.ensures) in
-    let held_is = to_z-of_z w64 (number_in c.row_of.result.now 0) (rw is (SFits-number (number_at rows vertex 0) near)) ∙ ap (λ (r : List ℤ). number_in r 0) is in
-    found_of_vertex graph rows vertex c.loop-size.first (not_less-as _ _ (number_at rows vertex 0) (pos 0) held_is refl c.if-row_of-lt0.false) (rw last at c.loop-size.invariant.found)
+    let is : c.numbers_of.result.now ≡ row_at rows vertex = c.numbers_of.ensures
+    ∙ ap (λ v. row_at rows v) c.from.ensures in
+    let near : IsNumber (number_at rows vertex 0) =
+    numbers-row rows vertex c.requires.numbers (c.requires.fits.each vertex c.requires.vertex).0 0
+    (row-some graph rows vertex c.requires.fits c.requires.vertex) in
+    let last : c.loop-size.size ≡ colour_count graph - colour_of graph vertex =
+    omega (arith, c.colour_count.ensures, c.colour_of.ensures.colour, c.from-2.ensures) in
+    let held_is = to_z-of_z w64 (number_in c.numbers_of.result.now 0)
+    (rw is (SFits-number (number_at rows vertex 0) near)) ∙ ap (λ (r : List ℤ). number_in r 0) is in
+    found_of_vertex graph rows vertex c.loop-size.first
+    (not_less-as _ _ (number_at rows vertex 0) (pos 0) held_is refl c.if-numbers_of-lt0.false)
+    (rw last at c.loop-size.invariant.found)

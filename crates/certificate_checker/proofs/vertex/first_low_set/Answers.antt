@@ -13,8 +13,10 @@ pub returns-then-row-place : goal.returns-then-row-place
 returns-then-row-place c =
     let row = c.args.row.now in
     let place = c.args.step * (1 + 2 * c.loop-set.set) in
-    let within : place < length row = set-in_row c.args.step c.loop-set.set (length c.args.own.now) (length row) c.loop-set-test.true c.requires.step.0 c.requires.row in
-    let held_is = to_z-of_z w64 (number_in row place) (SFits-number (number_in row place) (c.requires.held place within)) in
+    let within : place < length row = set-in_row c.args.step c.loop-set.set (length c.args.own.now)
+    (length row) c.loop-set-test.true c.requires.step.0 c.requires.row in
+    let held_is = to_z-of_z w64 (number_in row place)
+    (SFits-number (number_in row place) (c.requires.held place within)) in
     let needed_is = to_z-of_z w64 c.least_enough-needed.result (record { sfits = c.least_enough-needed.type_inv }) in
     rw needed_is (record {
       set = c.loop-set.set;
@@ -29,10 +31,13 @@ pub loop-set-preserved : goal.loop-set-preserved
 loop-set-preserved c =
     let row = c.args.row.now in
     let place = c.args.step * (1 + 2 * c.loop-set.set) in
-    let within : place < length row = set-in_row c.args.step c.loop-set.set (length c.args.own.now) (length row) c.loop-set-test.true c.requires.step.0 c.requires.row in
-    let held_is = to_z-of_z w64 (number_in row place) (SFits-number (number_in row place) (c.requires.held place within)) in
+    let within : place < length row = set-in_row c.args.step c.loop-set.set (length c.args.own.now)
+    (length row) c.loop-set-test.true c.requires.step.0 c.requires.row in
+    let held_is = to_z-of_z w64 (number_in row place)
+    (SFits-number (number_in row place) (c.requires.held place within)) in
     let needed_is = to_z-of_z w64 c.least_enough-needed.result (record { sfits = c.least_enough-needed.type_inv }) in
-    enough-next row c.args.own.now c.args.gains.now c.args.step c.loop-set.set c.least_enough-needed.result c.loop-set.invariant c.least_enough-needed.ensures
+    enough-next row c.args.own.now c.args.gains.now c.args.step c.loop-set.set c.least_enough-needed.result
+    c.loop-set.invariant c.least_enough-needed.ensures
     (not_less-as _ _ (number_in row place) c.least_enough-needed.result held_is needed_is c.if-row-place.false)
 
 pub loop-set-preserved-then-row-step : goal.loop-set-preserved-then-row-step
@@ -44,9 +49,15 @@ loop-set-preserved-then-row-step c =
     let place = c.args.step * (1 + 2 * set) in
     let other = c.args.step * (1 + 2 * part) in
     let less : part < set = c.if-part-set.true in
-    let within : place < length row = set-in_row c.args.step set (length own) (length row) c.loop-set-test.true c.requires.step.0 c.requires.row in
-    let also : other < length row = set-in_row c.args.step part (length own) (length row) (omega (arith, less, c.loop-set-test.true)) c.requires.step.0 c.requires.row in
-    let held_is = to_z-of_z w64 (number_in row place) (SFits-number (number_in row place) (c.requires.held place within)) in
-    let other_is = to_z-of_z w64 (number_in row other) (SFits-number (number_in row other) (c.requires.held other also)) in
-    enough-told row own c.args.gains.now c.args.step (length own) c.colours_of-colours.result.telling set part c.colours_of-colours.ensures.telling c.loop-set-test.true refl less c.loop-set.invariant
+    let within : place < length row = set-in_row c.args.step set (length own)
+    (length row) c.loop-set-test.true c.requires.step.0 c.requires.row in
+    let also : other < length row = set-in_row c.args.step part (length own) (length row)
+    (omega (arith, less, c.loop-set-test.true)) c.requires.step.0 c.requires.row in
+    let held_is = to_z-of_z w64 (number_in row place)
+    (SFits-number (number_in row place) (c.requires.held place within)) in
+    let other_is = to_z-of_z w64 (number_in row other)
+    (SFits-number (number_in row other) (c.requires.held other also)) in
+    enough-told row own c.args.gains.now c.args.step
+    (length own) c.colours_of-colours.result.telling set part c.colours_of-colours.ensures.telling
+    c.loop-set-test.true refl less c.loop-set.invariant
     (at_most-as _ _ (number_in row other) (number_in row place) other_is held_is c.if-row-step.true)

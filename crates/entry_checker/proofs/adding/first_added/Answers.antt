@@ -7,16 +7,25 @@ use Rattle.entry_checker.proofs.adding.first_added.Goals as goal
 
 pub adds-requires-clause-colour : goal.adds-requires-clause-colour
 adds-requires-clause-colour c =
-    let low = colour-le_vertex c.args.graph.now c.edge_count-place-end.ensures.is_graph.colours c.edge_at-edge.result.head
+    let low = colour-le_vertex c.args.graph.now c.edge_count-place-end.ensures.is_graph.colours
+    c.edge_at-edge.result.head
     c.edge_at-edge.ensures.is_edge.head in
-    omega (arith, low, c.colour_of.ensures.colour, c.edge_at-edge.ensures.is_edge.head, c.requires.vertices, c.mark_heads.ensures.length.1)
+    omega (
+      arith,
+      low,
+      c.colour_of.ensures.colour,
+      c.edge_at-edge.ensures.is_edge.head,
+      c.requires.vertices,
+      c.mark_heads.ensures.length.1,
+    )
 
 pub returns-then-adds : goal.returns-then-adds
 returns-then-adds c =
     let graph = c.args.graph.now in
     let low = colour-le_vertex graph c.edge_count-place-end.ensures.is_graph.colours c.edge_at-edge.result.head
     c.edge_at-edge.ensures.is_edge.head in
-    let within : c.loop-place.place < length graph.edges = omega (arith, c.edge_count-place-end.ensures.count, c.loop-place-test.true) in
+    let within : c.loop-place.place < length graph.edges =
+    omega (arith, c.edge_count-place-end.ensures.count, c.loop-place-test.true) in
     let tail_in : c.edge_at-edge.result.tail < length c.mark_heads.new.reached = omega
     (arith, c.edge_at-edge.ensures.is_edge.tail, c.requires.vertices, c.mark_heads.ensures.length.0) in
     let colour_in : c.colour_of.result < length c.mark_heads.new.taken =
@@ -29,9 +38,11 @@ returns-then-adds c =
       c.mark_heads.ensures.length.1,
     ) in
     record {
-      can = (adds_is graph c.args.edges.now c.mark_heads.new.reached c.mark_heads.new.taken c.loop-place.place c.colour_of.result
+      can = (adds_is graph c.args.edges.now c.mark_heads.new.reached c.mark_heads.new.taken c.loop-place.place
+          c.colour_of.result
           c.edge_at-edge.result c.adds.result
-          c.mark_heads.ensures.marks within c.edge_at-edge.ensures.edge c.colour_of.ensures.colour tail_in colour_in c.adds.ensures).0
+          c.mark_heads.ensures.marks within c.edge_at-edge.ensures.edge c.colour_of.ensures.colour tail_in colour_in
+          c.adds.ensures).0
           c.if-adds.true;
       before = c.loop-place.invariant;
     }
@@ -41,7 +52,8 @@ loop-place-preserved c =
     let graph = c.args.graph.now in
     let low = colour-le_vertex graph c.edge_count-place-end.ensures.is_graph.colours c.edge_at-edge.result.head
     c.edge_at-edge.ensures.is_edge.head in
-    let within : c.loop-place.place < length graph.edges = omega (arith, c.edge_count-place-end.ensures.count, c.loop-place-test.true) in
+    let within : c.loop-place.place < length graph.edges =
+    omega (arith, c.edge_count-place-end.ensures.count, c.loop-place-test.true) in
     let tail_in : c.edge_at-edge.result.tail < length c.mark_heads.new.reached = omega
     (arith, c.edge_at-edge.ensures.is_edge.tail, c.requires.vertices, c.mark_heads.ensures.length.0) in
     let colour_in : c.colour_of.result < length c.mark_heads.new.taken =
@@ -56,5 +68,7 @@ loop-place-preserved c =
     let exact : IsTrue c.adds.result ↔ CanBeAdded graph c.args.edges.now c.loop-place.place =
     adds_is graph c.args.edges.now c.mark_heads.new.reached c.mark_heads.new.taken c.loop-place.place c.colour_of.result
     c.edge_at-edge.result c.adds.result
-    c.mark_heads.ensures.marks within c.edge_at-edge.ensures.edge c.colour_of.ensures.colour tail_in colour_in c.adds.ensures in
-    none-more graph c.args.edges.now c.loop-place.place c.loop-place.invariant (λ can. false≢true (sym c.if-adds.false ∙ exact.1 can))
+    c.mark_heads.ensures.marks within c.edge_at-edge.ensures.edge c.colour_of.ensures.colour tail_in colour_in
+    c.adds.ensures in
+    none-more graph c.args.edges.now c.loop-place.place c.loop-place.invariant
+    (λ can. false≢true (sym c.if-adds.false ∙ exact.1 can))

@@ -22,7 +22,8 @@ bounds-taken-from c =
 pub loop-edge-preserved : goal.loop-edge-preserved
 loop-edge-preserved c =
     let graph = c.args.graph.now in
-    let head_is : c.edge_at-head.result.head ≡ (edge_at graph (get_or c.args.edges.now c.loop-edge.edge-index 0)).head = ap
+    let head_is : c.edge_at-head.result.head ≡ (edge_at graph (get_or c.args.edges.now c.loop-edge.edge-index 0)).head =
+    ap
     (λ edge. edge.head) c.edge_at-head.ensures.edge in
     let low = colour-le_vertex graph c.edge_count-count.ensures.is_graph.colours c.edge_at-head.result.head
     c.edge_at-head.ensures.is_edge.head in
@@ -47,9 +48,11 @@ loop-edge-preserved c =
       c.loop-edge.invariant.taken_long,
     ) in
     record {
-      marks = AreMarks-more graph c.args.edges.now c.loop-edge.edge-index c.from.result c.from-in-loop-edge.result c.loop-edge.reached
+      marks = AreMarks-more graph c.args.edges.now c.loop-edge.edge-index c.from.result c.from-in-loop-edge.result
+          c.loop-edge.reached
           c.loop-edge.taken c.loop-edge-test.true
-          (c.from.ensures ∙ head_is) (c.from-in-loop-edge.ensures ∙ c.colour_of.ensures.colour ∙ ap (colour_of graph) head_is) head_in
+          (c.from.ensures ∙ head_is) (c.from-in-loop-edge.ensures ∙ c.colour_of.ensures.colour
+          ∙ ap (colour_of graph) head_is) head_in
           colour_in c.loop-edge.invariant.marks;
       reached_long = length-set c.loop-edge.reached c.from.result _ ∙ c.loop-edge.invariant.reached_long;
       taken_long = length-set c.loop-edge.taken c.from-in-loop-edge.result _ ∙ c.loop-edge.invariant.taken_long;

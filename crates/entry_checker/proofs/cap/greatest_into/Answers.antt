@@ -19,12 +19,16 @@ loop-edge-preserved c =
           let weight_is = to_z-of_z w32 w.edge_at.result.weight (SFits-score w.edge_at.result.weight is_score)
           ∙ ap (λ e. e.weight) w.edge_at.ensures.edge in
           let out_is = to_z-of_z w32 w.max-most.result (record { sfits = w.max-most.type_inv }) in
-          let greater : IsGreater (to_z w32 c.loop-edge.most-bits) (edge_at graph edge).weight (to_z w32 (of_z w32 w.max-most.result)) =
-          IsGreater-max _ _ _ (out_is ∙ w.max-most.ensures ∙ ap (ord_max int_cmp (to_z w32 c.loop-edge.most-bits)) weight_is) in
+          let greater : IsGreater (to_z w32 c.loop-edge.most-bits) (edge_at graph edge).weight
+          (to_z w32 (of_z w32 w.max-most.result)) =
+          IsGreater-max _ _ _ (out_is ∙ w.max-most.ensures
+          ∙ ap (ord_max int_cmp (to_z w32 c.loop-edge.most-bits)) weight_is) in
           let in_set : is_allowed allowed edge ≡ true = sym c.has-here.ensures ∙ w.if-here.true in
           rw w.most-is (record {
-            greatest = greatest-more graph allowed c.args.colour c.edges_into-first.result.0 c.edges_into-first.result.1 edge _ _
-                c.edges_into-first.ensures c.loop-edge.auto.edge c.loop-edge-test.true in_set c.loop-edge.invariant.greatest greater.both;
+            greatest = greatest-more graph allowed c.args.colour c.edges_into-first.result.0 c.edges_into-first.result.1
+                edge _ _
+                c.edges_into-first.ensures c.loop-edge.auto.edge c.loop-edge-test.true in_set
+                c.loop-edge.invariant.greatest greater.both;
             near = greater.near c.loop-edge.invariant.near (rw w.edge_at.ensures.edge at is_score);
           })
       | else-here w ↦
@@ -42,6 +46,7 @@ returns-clause-greatest c =
       c.loop-edge.auto.edge-end
           c.edges_into-first.ensures.in_order,
     ) in
-    greatest-last c.args.graph.now c.args.allowed.now c.args.colour c.edges_into-first.result.0 c.edges_into-first.result.1 (to_z w32 c.loop-edge.most-bits)
+    greatest-last c.args.graph.now c.args.allowed.now c.args.colour c.edges_into-first.result.0
+    c.edges_into-first.result.1 (to_z w32 c.loop-edge.most-bits)
     c.edges_into-first.ensures
     (rw ended at c.loop-edge.invariant.greatest)

@@ -10,11 +10,14 @@ returns-clause-gathered c leaves forks before =
     let upper = c.args.gap.upper in
     let cap = cap_of c.args.graph.now c.args.allowed.now in
     let upper_is : to_z w64 (of_z w64 upper) ≡ upper = search rules in
-    let cap_is : to_z w64 (of_z w64 c.cap_in.result) ≡ cap = to_z-of_z w64 c.cap_in.result (record { sfits = c.cap_in.type_inv }) ∙ c.cap_in.ensures in
+    let cap_is : to_z w64 (of_z w64 c.cap_in.result) ≡ cap =
+    to_z-of_z w64 c.cap_in.result (record { sfits = c.cap_in.type_inv }) ∙ c.cap_in.ensures in
     record {
       slack = before.slack;
-      wasted = rw c.first_with-found.ensures (found_node (λ (fork : Fork). fork.node) (IsUseful c.args.graph.now upper) forks
+      wasted = rw c.first_with-found.ensures
+          (found_node (λ (fork : Fork). fork.node) (IsUseful c.args.graph.now upper) forks
           (record { node = c.args.found.now.next; allowed = c.args.allowed.now })
-          c.args.found.now.first_wasted _ (at_most-as _ _ upper cap upper_is cap_is) (not_at_most-as _ _ upper cap upper_is cap_is) before.wasted);
+          c.args.found.now.first_wasted _ (at_most-as _ _ upper cap upper_is cap_is)
+          (not_at_most-as _ _ upper cap upper_is cap_is) before.wasted);
       decided = before.decided;
     }

@@ -8,7 +8,8 @@ use Rattle.entry_checker.proofs.AreFirsts.{AreFirsts-none, rows-few}
 use Rattle.entry_checker.proofs.rows.first_wrong_row.Goals as goal
 
 -- one more row is right
-right_more : (built : LossGraphValue) (rows : List TreeRow) (place : ℕ) → ((earlier : ℕ) → earlier < place → IsRow built rows earlier)
+right_more : (built : LossGraphValue) (rows : List TreeRow) (place : ℕ)
+    → ((earlier : ℕ) → earlier < place → IsRow built rows earlier)
     → IsRow built rows place
     → (earlier : ℕ) → earlier < place + 1 → IsRow built rows earlier
 right_more built rows place before here earlier within = choose (cases_eq earlier place)
@@ -27,12 +28,22 @@ loop-place-init c = record {
 pub overflow_cast-result : goal.overflow_cast-result
 overflow_cast-result c =
     let few = rows-few c.args.built.now c.args.rows.now c.loop-place.place c.loop-place.invariant.right in
-    omega (arith, few, ap (λ built. length built.graph.edges) c.built.view_is, edges-few _ c.edge_count-count.ensures.is_graph)
+    omega (
+      arith,
+      few,
+      ap (λ built. length built.graph.edges) c.built.view_is,
+      edges-few _ c.edge_count-count.ensures.is_graph,
+    )
 
 pub overflow_add-result : goal.overflow_add-result
 overflow_add-result c =
     let few = rows-few c.args.built.now c.args.rows.now c.loop-place.place c.loop-place.invariant.right in
-    omega (arith, few, ap (λ built. length built.graph.edges) c.built.view_is, edges-few _ c.edge_count-count.ensures.is_graph)
+    omega (
+      arith,
+      few,
+      ap (λ built. length built.graph.edges) c.built.view_is,
+      edges-few _ c.edge_count-count.ensures.is_graph,
+    )
 
 pub note_row-requires-clause-few : goal.note_row-requires-clause-few
 note_row-requires-clause-few c =

@@ -11,11 +11,14 @@ use Rattle.entry_checker.proofs.rows.is_row.Goals as goal
 use Rattle.entry_checker.proofs.rows.is_row.Goals.{then-rises, else-rises}
 
 -- a row and its edge, as the graph inside has them
-read_from : (built : LossGraphValue) (inside : Graph) (rows : List TreeRow) (place : ℕ) (firsts : List ℕ) (row : TreeRow) (edge : Edge)
+read_from : (built : LossGraphValue) (inside : Graph) (rows : List TreeRow) (place : ℕ) (firsts : List ℕ)
+    (row : TreeRow) (edge : Edge)
     → inside ≡ built.graph
-    → row ≡ get_or rows place row → place < length rows → edge ≡ edge_at inside row.edge → row.edge < length inside.edges
+    → row ≡ get_or rows place row → place < length rows → edge ≡ edge_at inside row.edge
+    → row.edge < length inside.edges
     → edge.tail < length inside.colours
-    → length built.graph.colours ≤ length firsts → AreFirsts built.graph rows place firsts → IsRead built rows place firsts row edge.tail
+    → length built.graph.colours ≤ length firsts → AreFirsts built.graph rows place firsts
+    → IsRead built rows place firsts row edge.tail
 read_from built inside rows place firsts row edge same row_is within edge_is in_graph tail_in room are = record {
   row_is = row_is ∙ get_or_default rows place row _ within;
   tail_is = ap (λ (e : Edge). e.tail) edge_is ∙ ap (λ (g : Graph). (edge_at g row.edge).tail) same;
@@ -36,9 +39,11 @@ returns-then-is_parent c =
     c.requires.vertices c.requires.firsts in
     elim c.if-rises.branch [
       | then-rises w ↦ (
-        λ yes. row_from c.args.built.now c.args.rows.now c.args.place c.args.firsts.now row tail read (c.rises.ensures.0 w.if-rises.true)
+        λ yes. row_from c.args.built.now c.args.rows.now c.args.place c.args.firsts.now row tail read
+            (c.rises.ensures.0 w.if-rises.true)
             (w.is_parent.ensures.0 (sym w.value-is ∙ c.if-is_parent.true)) (c.tells_edge.ensures.0 yes),
-        λ is. c.tells_edge.ensures.1 (row_parts c.args.built.now c.args.rows.now c.args.place c.args.firsts.now row tail read is).2,
+        λ is. c.tells_edge.ensures.1 (row_parts c.args.built.now c.args.rows.now c.args.place c.args.firsts.now row tail
+            read is).2,
       )
       | else-rises w ↦ absurd (false≢true (sym w.if-rises.false ∙ sym w.value-is ∙ c.if-is_parent.true))
     ]
@@ -56,12 +61,14 @@ returns-else-is_parent c =
     elim c.if-rises.branch [
       | then-rises w ↦ (
         λ yes. absurd (false≢true (sym c.if-is_parent.false ∙ yes)),
-        λ is. w.value-is ∙ w.is_parent.ensures.1 (row_parts c.args.built.now c.args.rows.now c.args.place c.args.firsts.now row tail read
+        λ is. w.value-is ∙ w.is_parent.ensures.1
+            (row_parts c.args.built.now c.args.rows.now c.args.place c.args.firsts.now row tail read
             is).1,
       )
       | else-rises w ↦ (
         λ yes. absurd (false≢true (sym c.if-is_parent.false ∙ yes)),
         λ is. absurd (false≢true (sym w.if-rises.false
-            ∙ c.rises.ensures.1 (row_parts c.args.built.now c.args.rows.now c.args.place c.args.firsts.now row tail read is).0)),
+            ∙ c.rises.ensures.1 (row_parts c.args.built.now c.args.rows.now c.args.place c.args.firsts.now row tail read
+            is).0)),
       )
     ]

@@ -11,17 +11,21 @@ returns-then-firsts-head-eq0-clause-firsts c =
     let graph = c.args.graph.now in
     let goes : c.from-head.result ≡ head_of graph c.args.rows.now c.args.place =
     c.from-head.ensures ∙ ap (λ edge. edge.head) c.edge_at.ensures.edge
-    ∙ ap (λ (row : TreeRow). (edge_at graph row.edge).head) (get_or_default c.args.rows.now c.args.place c.index-rows-place.result _
+    ∙ ap (λ (row : TreeRow). (edge_at graph row.edge).head)
+    (get_or_default c.args.rows.now c.args.place c.index-rows-place.result _
     c.requires.in_rows) in
     AreFirsts-noted graph c.args.rows.now c.args.place c.from-head.result c.args.firsts.now goes
-    (omega (arith, c.from-head.ensures, c.edge_at.ensures.is_edge.head, c.requires.vertices)) c.if-firsts-head-eq0.true c.requires.firsts
+    (omega (arith, c.from-head.ensures, c.edge_at.ensures.is_edge.head, c.requires.vertices)) c.if-firsts-head-eq0.true
+    c.requires.firsts
 
 pub returns-else-firsts-head-eq0-clause-firsts : goal.returns-else-firsts-head-eq0-clause-firsts
 returns-else-firsts-head-eq0-clause-firsts c =
     let graph = c.args.graph.now in
     let goes : c.from-head.result ≡ head_of graph c.args.rows.now c.args.place =
     c.from-head.ensures ∙ ap (λ edge. edge.head) c.edge_at.ensures.edge
-    ∙ ap (λ (row : TreeRow). (edge_at graph row.edge).head) (get_or_default c.args.rows.now c.args.place c.index-rows-place.result _
+    ∙ ap (λ (row : TreeRow). (edge_at graph row.edge).head)
+    (get_or_default c.args.rows.now c.args.place c.index-rows-place.result _
     c.requires.in_rows) in
-    AreFirsts-passed graph c.args.rows.now c.args.place c.from-head.result c.args.firsts.now goes c.if-firsts-head-eq0.false
+    AreFirsts-passed graph c.args.rows.now c.args.place c.from-head.result c.args.firsts.now goes
+    c.if-firsts-head-eq0.false
     c.requires.firsts

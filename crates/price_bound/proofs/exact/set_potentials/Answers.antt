@@ -18,7 +18,8 @@ returns-then-not-add_gains-clause-high c = λ is.
     let before = c.loop-colour.colour - 1 in
     let high = c.add_gains.ensures.high c.if-not-add_gains.true in
     let price_is : to_z w64 (of_z w64 (number_in prices (c.from.result - 1))) ≡ number_in prices before =
-    to_z-of_z w64 (number_in prices (c.from.result - 1)) (SFits-amount (number_in prices (c.from.result - 1)) (c.requires.prices (c.from.result - 1)))
+    to_z-of_z w64 (number_in prices (c.from.result - 1))
+    (SFits-amount (number_in prices (c.from.result - 1)) (c.requires.prices (c.from.result - 1)))
     ∙ ap (λ n. number_in prices (n - 1)) c.from.ensures in
     let gains = rw price_is at c.gather_gains.ensures.gains in
     record {
@@ -26,10 +27,18 @@ returns-then-not-add_gains-clause-high c = λ is.
       colour = before;
       vertex = high.0;
       counted = omega (arith, c.loop-colour.invariant.counted);
-      within = omega (arith, high.1, c.requires.potential_count, c.loop-colour.auto.potentials, c.add_gains.auto.potentials);
-      exact = exact-more graph c.args.allowed.now prices c.loop-colour.potentials c.add_gains.new.potentials c.loop-colour.colour before
+      within = omega (
+        arith,
+        high.1,
+        c.requires.potential_count,
+        c.loop-colour.auto.potentials,
+        c.add_gains.auto.potentials,
+      );
+      exact = exact-more graph c.args.allowed.now prices c.loop-colour.potentials c.add_gains.new.potentials
+          c.loop-colour.colour before
           c.edge_count-edges.ensures.is_graph (omega arith) c.loop-colour.invariant.counted
-          (λ v within. c.add_gains.ensures.added v ∙ ap (λ n. number_in c.loop-colour.potentials v +ℤ n) (gains v within)) c.loop-colour.invariant.exact;
+          (λ v within. c.add_gains.ensures.added v
+          ∙ ap (λ n. number_in c.loop-colour.potentials v +ℤ n) (gains v within)) c.loop-colour.invariant.exact;
       high = high.2;
     }
 
@@ -39,14 +48,17 @@ loop-colour-preserved c =
     let prices = c.args.prices.now in
     let before = c.loop-colour.colour - 1 in
     let price_is : to_z w64 (of_z w64 (number_in prices (c.from.result - 1))) ≡ number_in prices before =
-    to_z-of_z w64 (number_in prices (c.from.result - 1)) (SFits-amount (number_in prices (c.from.result - 1)) (c.requires.prices (c.from.result - 1)))
+    to_z-of_z w64 (number_in prices (c.from.result - 1))
+    (SFits-amount (number_in prices (c.from.result - 1)) (c.requires.prices (c.from.result - 1)))
     ∙ ap (λ n. number_in prices (n - 1)) c.from.ensures in
     let gains = rw price_is at c.gather_gains.ensures.gains in
     record {
       counted = omega (arith, c.loop-colour.invariant.counted);
-      exact = exact-more graph c.args.allowed.now prices c.loop-colour.potentials c.add_gains.new.potentials c.loop-colour.colour before
+      exact = exact-more graph c.args.allowed.now prices c.loop-colour.potentials c.add_gains.new.potentials
+          c.loop-colour.colour before
           c.edge_count-edges.ensures.is_graph (omega arith) c.loop-colour.invariant.counted
-          (λ v within. c.add_gains.ensures.added v ∙ ap (λ n. number_in c.loop-colour.potentials v +ℤ n) (gains v within)) c.loop-colour.invariant.exact;
+          (λ v within. c.add_gains.ensures.added v
+          ∙ ap (λ n. number_in c.loop-colour.potentials v +ℤ n) (gains v within)) c.loop-colour.invariant.exact;
       low = c.add_gains.ensures.low c.if-not-add_gains.false;
       clear = c.add_gains.ensures.clear;
     }

@@ -8,7 +8,12 @@ use Rattle.price_bound.proofs.improving.improve.Goals.{else-loop-test, then-loop
 pub scaled-requires : goal.scaled-requires
 scaled-requires c =
     let few = colours-few c.args.graph.now c.edge_count-edges.ensures.is_graph.colours in
-    rw c.deref.ensures.value (omega (arith, few, c.requires.vertices, c.in_ok-offers.ensures.offers.kept.room.fits.price_count))
+    rw c.deref.ensures.value (omega (
+      arith,
+      few,
+      c.requires.vertices,
+      c.in_ok-offers.ensures.offers.kept.room.fits.price_count,
+    ))
 
 pub best_prices-best-requires-clause-colours : goal.best_prices-best-requires-clause-colours
 best_prices-best-requires-clause-colours c =

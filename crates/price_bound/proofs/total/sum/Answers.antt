@@ -14,8 +14,10 @@ loop-number-preserved c =
     let more = IsSumNear-more sum number place c.loop-number.invariant.near near in
     let few : place + 1 ≤ 4098 = omega (arith, c.requires.few, c.loop-number-test.true) in
     let is : to_z w64 (of_z w64 (sum +ℤ to_z w64 (of_z w64 number))) ≡ sum +ℤ number =
-    ap (λ n. to_z w64 (of_z w64 (sum +ℤ n))) (to_z-of_z w64 number (SFits-near number near)) ∙ to_z-of_z w64 (sum +ℤ number) (SFits-sum (sum +ℤ number) (place + 1) more few) in
+    ap (λ n. to_z w64 (of_z w64 (sum +ℤ n))) (to_z-of_z w64 number (SFits-near number near))
+    ∙ to_z-of_z w64 (sum +ℤ number) (SFits-sum (sum +ℤ number) (place + 1) more few) in
     rw is (record {
-      so_far = ap (λ n. n +ℤ number) c.loop-number.invariant.so_far ∙ sym (total-more numbers place c.loop-number-test.true);
+      so_far = ap (λ n. n +ℤ number) c.loop-number.invariant.so_far
+          ∙ sym (total-more numbers place c.loop-number-test.true);
       near = more;
     })

@@ -10,36 +10,46 @@ use Rattle.price_bound.proofs.total.total_of.Goals as goal
 pub sum-requires-clause-few : goal.sum-requires-clause-few
 sum-requires-clause-few c =
     let colours = c.edge_count-edges.ensures.is_graph.colours in
-    let low = colour-le_vertex c.args.graph.now colours (length c.args.graph.now.colours - 1) (omega (arith, colours.some)) in
+    let low = colour-le_vertex c.args.graph.now colours (length c.args.graph.now.colours - 1)
+    (omega (arith, colours.some)) in
     omega (arith, low, colours.few, c.requires.prices)
 
 pub overflow_add-result : goal.overflow_add-result
 overflow_add-result c =
     let colours = c.edge_count-edges.ensures.is_graph.colours in
-    let low = colour-le_vertex c.args.graph.now colours (length c.args.graph.now.colours - 1) (omega (arith, colours.some)) in
+    let low = colour-le_vertex c.args.graph.now colours (length c.args.graph.now.colours - 1)
+    (omega (arith, colours.some)) in
     let few : length c.args.prices.now ≤ 4096 = omega (arith, low, colours.few, c.requires.prices) in
-    let first = IsNear-at c.args.potentials.now 0 c.requires.potentials_near (omega (arith, c.requires.potentials, colours.some)) in
+    let first = IsNear-at c.args.potentials.now 0 c.requires.potentials_near
+    (omega (arith, c.requires.potentials, colours.some)) in
     let sum = IsSumNear-total c.args.prices.now c.requires.prices_near in
     rw (c.sum.ensures, with_prices _ _ _ sum first few) (SFits-with _ _ _ sum first few)
 
 pub overflow_add-result-2 : goal.overflow_add-result-2
 overflow_add-result-2 c =
     let colours = c.edge_count-edges.ensures.is_graph.colours in
-    let low = colour-le_vertex c.args.graph.now colours (length c.args.graph.now.colours - 1) (omega (arith, colours.some)) in
+    let low = colour-le_vertex c.args.graph.now colours (length c.args.graph.now.colours - 1)
+    (omega (arith, colours.some)) in
     let few : length c.args.prices.now ≤ 4096 = omega (arith, low, colours.few, c.requires.prices) in
-    let first = IsNear-at c.args.potentials.now 0 c.requires.potentials_near (omega (arith, c.requires.potentials, colours.some)) in
+    let first = IsNear-at c.args.potentials.now 0 c.requires.potentials_near
+    (omega (arith, c.requires.potentials, colours.some)) in
     let sum = IsSumNear-total c.args.prices.now c.requires.prices_near in
-    let root : c.from.result ≡ c.root_score.result = c.from.ensures ∙ to_z-of_z w32 c.root_score.result (SFits-score c.root_score.result c.root_score.ensures.near) in
-    rw (root, c.sum.ensures, with_root _ _ _ _ sum first c.root_score.ensures.near few) (SFits-whole _ _ _ _ sum first c.root_score.ensures.near few)
+    let root : c.from.result ≡ c.root_score.result = c.from.ensures
+    ∙ to_z-of_z w32 c.root_score.result (SFits-score c.root_score.result c.root_score.ensures.near) in
+    rw (root, c.sum.ensures, with_root _ _ _ _ sum first c.root_score.ensures.near few)
+    (SFits-whole _ _ _ _ sum first c.root_score.ensures.near few)
 
 pub returns : goal.returns
 returns c =
     let colours = c.edge_count-edges.ensures.is_graph.colours in
-    let low = colour-le_vertex c.args.graph.now colours (length c.args.graph.now.colours - 1) (omega (arith, colours.some)) in
+    let low = colour-le_vertex c.args.graph.now colours (length c.args.graph.now.colours - 1)
+    (omega (arith, colours.some)) in
     let few : length c.args.prices.now ≤ 4096 = omega (arith, low, colours.few, c.requires.prices) in
-    let first = IsNear-at c.args.potentials.now 0 c.requires.potentials_near (omega (arith, c.requires.potentials, colours.some)) in
+    let first = IsNear-at c.args.potentials.now 0 c.requires.potentials_near
+    (omega (arith, c.requires.potentials, colours.some)) in
     let sum = IsSumNear-total c.args.prices.now c.requires.prices_near in
-    let root : c.from.result ≡ c.root_score.result = c.from.ensures ∙ to_z-of_z w32 c.root_score.result (SFits-score c.root_score.result c.root_score.ensures.near) in
+    let root : c.from.result ≡ c.root_score.result = c.from.ensures
+    ∙ to_z-of_z w32 c.root_score.result (SFits-score c.root_score.result c.root_score.ensures.near) in
     rw (root, c.sum.ensures, with_root _ _ _ _ sum first c.root_score.ensures.near few)
     (to_z-of_z w64 _ (SFits-whole _ _ _ _ sum first c.root_score.ensures.near few)
     ∙ ap (λ n. n +ℤ (number_in c.args.potentials.now 0 +ℤ total c.args.prices.now)) c.root_score.ensures.score)

@@ -9,4 +9,5 @@ abbrev pub invariant-loop-part : goal.invariant-loop-part
 invariant-loop-part l =
     (set : List Bool) → place_of set ≡ l.rest → l.colour + length set ≡ colour_count l.graph
     → (part : List Bool) → IsPartOf part set → place_of part < l.part
-    → sum_with l.graph (map (λ row. row.items) l.rows) set l.edge part ≡ number_of l.graph (map (λ row. row.items) l.rows) (edge_at l.graph l.edge).tail (true ∷ set) → ⊥
+    → sum_with l.graph (map (λ row. row.items) l.rows) set l.edge part
+    ≡ number_of l.graph (map (λ row. row.items) l.rows) (edge_at l.graph l.edge).tail (true ∷ set) → ⊥

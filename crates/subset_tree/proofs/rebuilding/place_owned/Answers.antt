@@ -10,11 +10,15 @@ use Rattle.std.proofs.Common.{arith, ◌<◌, ◌+◌, ◌^◌}
 
 pub overflow_add-place : goal.overflow_add-place
 overflow_add-place c =
-    let hit = place-hit c.args.vertex c.args.owners.now c.loop-owner.owner-index c.loop-owner-test.true c.if-owner-vertex.true in
+    let hit = place-hit c.args.vertex c.args.owners.now c.loop-owner.owner-index c.loop-owner-test.true
+    c.if-owner-vertex.true in
     let fits : c.loop-owner.place + c.loop-owner.bit < 2 ^ 64 =
-    hit_fits c.loop-owner.place c.loop-owner.bit (place_of (owned c.args.vertex (drop c.loop-owner.owner-index c.args.owners.now)))
-    (place_of (owned c.args.vertex (drop (c.loop-owner.owner-index + 1) c.args.owners.now))) (place_of (owned c.args.vertex c.args.owners.now))
-    (length (owned c.args.vertex c.args.owners.now)) hit c.loop-owner.invariant.added (place-lt (owned c.args.vertex c.args.owners.now))
+    hit_fits c.loop-owner.place c.loop-owner.bit
+    (place_of (owned c.args.vertex (drop c.loop-owner.owner-index c.args.owners.now)))
+    (place_of (owned c.args.vertex (drop (c.loop-owner.owner-index + 1) c.args.owners.now)))
+    (place_of (owned c.args.vertex c.args.owners.now))
+    (length (owned c.args.vertex c.args.owners.now)) hit c.loop-owner.invariant.added
+    (place-lt (owned c.args.vertex c.args.owners.now))
     (omega (arith, length-owned c.args.vertex c.args.owners.now, c.requires)) in
     omega (arith, fits)
 
@@ -22,15 +26,21 @@ pub loop-owner-preserved : goal.loop-owner-preserved
 loop-owner-preserved c =
     elim c.if-owner-vertex.branch [
       | then-owner-vertex w ↦ record {
-        added = added_hit c.loop-owner.place c.loop-owner.bit (place_of (owned c.args.vertex (drop c.loop-owner.owner-index c.args.owners.now)))
-            (place_of (owned c.args.vertex (drop (c.loop-owner.owner-index + 1) c.args.owners.now))) (place_of (owned c.args.vertex c.args.owners.now)) c.if-owner-vertex.place
-            (place-hit c.args.vertex c.args.owners.now c.loop-owner.owner-index c.loop-owner-test.true w.if-owner-vertex.true) c.loop-owner.invariant.added w.place-is;
+        added = added_hit c.loop-owner.place c.loop-owner.bit
+            (place_of (owned c.args.vertex (drop c.loop-owner.owner-index c.args.owners.now)))
+            (place_of (owned c.args.vertex (drop (c.loop-owner.owner-index + 1) c.args.owners.now)))
+            (place_of (owned c.args.vertex c.args.owners.now)) c.if-owner-vertex.place
+            (place-hit c.args.vertex c.args.owners.now c.loop-owner.owner-index c.loop-owner-test.true
+            w.if-owner-vertex.true) c.loop-owner.invariant.added w.place-is;
         power = next_power c.loop-owner.bit c.loop-owner.owner-index c.loop-owner.invariant.power;
       }
       | else-owner-vertex w ↦ record {
-        added = added_miss c.loop-owner.place c.loop-owner.bit (place_of (owned c.args.vertex (drop c.loop-owner.owner-index c.args.owners.now)))
-            (place_of (owned c.args.vertex (drop (c.loop-owner.owner-index + 1) c.args.owners.now))) (place_of (owned c.args.vertex c.args.owners.now)) c.if-owner-vertex.place
-            (place-miss c.args.vertex c.args.owners.now c.loop-owner.owner-index c.loop-owner-test.true w.if-owner-vertex.false) c.loop-owner.invariant.added w.place-is;
+        added = added_miss c.loop-owner.place c.loop-owner.bit
+            (place_of (owned c.args.vertex (drop c.loop-owner.owner-index c.args.owners.now)))
+            (place_of (owned c.args.vertex (drop (c.loop-owner.owner-index + 1) c.args.owners.now)))
+            (place_of (owned c.args.vertex c.args.owners.now)) c.if-owner-vertex.place
+            (place-miss c.args.vertex c.args.owners.now c.loop-owner.owner-index c.loop-owner-test.true
+            w.if-owner-vertex.false) c.loop-owner.invariant.added w.place-is;
         power = next_power c.loop-owner.bit c.loop-owner.owner-index c.loop-owner.invariant.power;
       }
     ]

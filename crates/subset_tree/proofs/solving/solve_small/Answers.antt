@@ -10,29 +10,38 @@ pub returns-clause-best : goal.returns-clause-best
 returns-clause-best c = record {
   colourful = c.in_ok-edges.ensures.colourful;
   greatest =
-      c.what_holds_bounds_every_tree.ensures c.args.graph.now (a_table _) (score_of c.args.graph.now c.in_ok-edges.edges.items) c.edge_count-edges_in_all.ensures.is_graph
+      c.what_holds_bounds_every_tree.ensures c.args.graph.now (a_table _)
+      (score_of c.args.graph.now c.in_ok-edges.edges.items) c.edge_count-edges_in_all.ensures.is_graph
       (table_holds c.args.graph.now _ c.in_ok-edges.edges.items c.in_ok-rows.ensures.exact
-      (c.in_ok-edges.ensures.score ∙ ap (λ rs. table_total c.args.graph.now (map (λ row. row.items) rs)) c.deref.ensures.value));
+      (c.in_ok-edges.ensures.score ∙ ap (λ rs. table_total c.args.graph.now (map (λ row. row.items) rs))
+      c.deref.ensures.value));
 }
 
 pub returns-clause-holds : goal.returns-clause-holds
 returns-clause-holds c =
-    subst (λ (rows : List (List ℤ)). TableHolds c.args.graph.now rows (score_of c.args.graph.now c.in_ok-edges.edges.items)) (sym (rw c.unwrap.ensures at c.new.ensures.rows))
+    subst (λ (rows : List (List ℤ)). TableHolds c.args.graph.now rows
+    (score_of c.args.graph.now c.in_ok-edges.edges.items)) (sym (rw c.unwrap.ensures at c.new.ensures.rows))
     (table_holds c.args.graph.now _ c.in_ok-edges.edges.items c.in_ok-rows.ensures.exact
-    (c.in_ok-edges.ensures.score ∙ ap (λ rs. table_total c.args.graph.now (map (λ row. row.items) rs)) c.deref.ensures.value))
+    (c.in_ok-edges.ensures.score ∙ ap (λ rs. table_total c.args.graph.now (map (λ row. row.items) rs))
+    c.deref.ensures.value))
 
 pub returns-clause-maximal : goal.returns-clause-maximal
 returns-clause-maximal c =
-    c.a_best_list_is_maximal.ensures c.args.graph.now c.in_ok-edges.edges.items c.edge_count-edges_in_all.ensures.is_graph
+    c.a_best_list_is_maximal.ensures c.args.graph.now c.in_ok-edges.edges.items
+    c.edge_count-edges_in_all.ensures.is_graph
     (record {
       colourful = c.in_ok-edges.ensures.colourful;
       greatest =
-          c.what_holds_bounds_every_tree.ensures c.args.graph.now (a_table _) (score_of c.args.graph.now c.in_ok-edges.edges.items) c.edge_count-edges_in_all.ensures.is_graph
+          c.what_holds_bounds_every_tree.ensures c.args.graph.now (a_table _)
+          (score_of c.args.graph.now c.in_ok-edges.edges.items) c.edge_count-edges_in_all.ensures.is_graph
           (table_holds c.args.graph.now _ c.in_ok-edges.edges.items c.in_ok-rows.ensures.exact
-          (c.in_ok-edges.ensures.score ∙ ap (λ rs. table_total c.args.graph.now (map (λ row. row.items) rs)) c.deref.ensures.value));
+          (c.in_ok-edges.ensures.score ∙ ap (λ rs. table_total c.args.graph.now (map (λ row. row.items) rs))
+          c.deref.ensures.value));
     })
 
 pub returns-clause-capped : goal.returns-clause-capped
 returns-clause-capped c =
-    c.the_cap_bounds_every_tree.ensures c.args.graph.now (all_edges c.args.graph.now) c.edge_count-edges_in_all.ensures.is_graph c.in_ok-edges.edges.items c.in_ok-edges.ensures.colourful
+    c.the_cap_bounds_every_tree.ensures c.args.graph.now
+    (all_edges c.args.graph.now) c.edge_count-edges_in_all.ensures.is_graph c.in_ok-edges.edges.items
+    c.in_ok-edges.ensures.colourful
     (in_all c.args.graph.now c.in_ok-edges.edges.items c.in_ok-edges.ensures.colourful)

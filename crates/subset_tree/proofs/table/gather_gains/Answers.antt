@@ -9,30 +9,41 @@ use Rattle.subset_tree.proofs.table.gather_gains.Goals.{then-edge-vertex, else-e
 pub loop-place-init : goal.loop-place-init
 loop-place-init c = record {
   long = c.clear_gains.ensures.length;
-  gained = gained-first c.args.graph.now (map (λ row. row.items) c.args.rows.now) c.args.vertex c.args.colour c.edges_into-first.result.0 c.edges_into-first.result.1
-      c.clear_gains.new.gains c.edges_into-first.ensures c.requires.colour.1 (c.clear_gains.ensures.length ∙ c.requires.room)
+  gained = gained-first c.args.graph.now (map (λ row. row.items) c.args.rows.now) c.args.vertex c.args.colour
+      c.edges_into-first.result.0 c.edges_into-first.result.1
+      c.clear_gains.new.gains c.edges_into-first.ensures c.requires.colour.1 (c.clear_gains.ensures.length
+      ∙ c.requires.room)
       (λ place within. c.clear_gains.ensures.clear place (omega (arith, within, c.clear_gains.ensures.length)));
   none = λ same. c.clear_gains.ensures.clear;
 }
 
 pub raise_gains-requires-clause-numbers : goal.raise_gains-requires-clause-numbers
 raise_gains-requires-clause-numbers c =
-    (head_row c.args.graph.now (λ row. row.items) c.args.rows.now c.args.vertex c.args.colour c.edges_into-first.result.0 c.edges_into-first.result.1 c.loop-place.place
-    c.edge_at-edge.result c.from.result c.index-rows-from.result c.deref.result.now c.requires.graph c.requires.rows c.edges_into-first.ensures
-    c.loop-place.auto.place c.loop-place-test.true c.edge_at-edge.ensures.edge c.edge_at-edge.ensures.is_edge c.if-edge-vertex.true c.from.ensures c.index-rows-from.is c.deref.ensures.value).modest
+    (head_row c.args.graph.now (λ row. row.items) c.args.rows.now c.args.vertex c.args.colour
+    c.edges_into-first.result.0 c.edges_into-first.result.1 c.loop-place.place
+    c.edge_at-edge.result c.from.result c.index-rows-from.result c.deref.result.now c.requires.graph c.requires.rows
+    c.edges_into-first.ensures
+    c.loop-place.auto.place c.loop-place-test.true c.edge_at-edge.ensures.edge c.edge_at-edge.ensures.is_edge
+    c.if-edge-vertex.true c.from.ensures c.index-rows-from.is c.deref.ensures.value).modest
 
 pub raise_gains-requires-clause-few : goal.raise_gains-requires-clause-few
 raise_gains-requires-clause-few c =
-    let long = (head_row c.args.graph.now (λ row. row.items) c.args.rows.now c.args.vertex c.args.colour c.edges_into-first.result.0 c.edges_into-first.result.1 c.loop-place.place
-    c.edge_at-edge.result c.from.result c.index-rows-from.result c.deref.result.now c.requires.graph c.requires.rows c.edges_into-first.ensures
-    c.loop-place.auto.place c.loop-place-test.true c.edge_at-edge.ensures.edge c.edge_at-edge.ensures.is_edge c.if-edge-vertex.true c.from.ensures c.index-rows-from.is c.deref.ensures.value).long in
+    let long = (head_row c.args.graph.now (λ row. row.items) c.args.rows.now c.args.vertex c.args.colour
+    c.edges_into-first.result.0 c.edges_into-first.result.1 c.loop-place.place
+    c.edge_at-edge.result c.from.result c.index-rows-from.result c.deref.result.now c.requires.graph c.requires.rows
+    c.edges_into-first.ensures
+    c.loop-place.auto.place c.loop-place-test.true c.edge_at-edge.ensures.edge c.edge_at-edge.ensures.is_edge
+    c.if-edge-vertex.true c.from.ensures c.index-rows-from.is c.deref.ensures.value).long in
     rw long (powers-le (colour_count c.args.graph.now - c.args.colour) (omega (arith, c.requires.few)))
 
 pub raise_gains-requires-clause-room : goal.raise_gains-requires-clause-room
 raise_gains-requires-clause-room c =
-    let long = (head_row c.args.graph.now (λ row. row.items) c.args.rows.now c.args.vertex c.args.colour c.edges_into-first.result.0 c.edges_into-first.result.1 c.loop-place.place
-    c.edge_at-edge.result c.from.result c.index-rows-from.result c.deref.result.now c.requires.graph c.requires.rows c.edges_into-first.ensures
-    c.loop-place.auto.place c.loop-place-test.true c.edge_at-edge.ensures.edge c.edge_at-edge.ensures.is_edge c.if-edge-vertex.true c.from.ensures c.index-rows-from.is c.deref.ensures.value).long in
+    let long = (head_row c.args.graph.now (λ row. row.items) c.args.rows.now c.args.vertex c.args.colour
+    c.edges_into-first.result.0 c.edges_into-first.result.1 c.loop-place.place
+    c.edge_at-edge.result c.from.result c.index-rows-from.result c.deref.result.now c.requires.graph c.requires.rows
+    c.edges_into-first.ensures
+    c.loop-place.auto.place c.loop-place-test.true c.edge_at-edge.ensures.edge c.edge_at-edge.ensures.is_edge
+    c.if-edge-vertex.true c.from.ensures c.index-rows-from.is c.deref.ensures.value).long in
     let here = c.loop-place.invariant.long in
     let whole = c.requires.room in
     omega (arith, long, here, whole)
@@ -41,21 +52,29 @@ pub loop-place-preserved : goal.loop-place-preserved
 loop-place-preserved c =
     elim c.if-edge-vertex.branch [
       | then-edge-vertex w ↦
-          let head = head_row c.args.graph.now (λ row. row.items) c.args.rows.now c.args.vertex c.args.colour c.edges_into-first.result.0 c.edges_into-first.result.1 c.loop-place.place
-          c.edge_at-edge.result w.from.result w.index-rows-from.result w.deref.result.now c.requires.graph c.requires.rows c.edges_into-first.ensures
-          c.loop-place.auto.place c.loop-place-test.true c.edge_at-edge.ensures.edge c.edge_at-edge.ensures.is_edge w.if-edge-vertex.true w.from.ensures w.index-rows-from.is w.deref.ensures.value in
-          let weight_is = to_z-of_z w32 c.edge_at-edge.result.weight (fits-weight c.edge_at-edge.result.weight c.edge_at-edge.ensures.is_edge.weight) in
+          let head = head_row c.args.graph.now (λ row. row.items) c.args.rows.now c.args.vertex c.args.colour
+          c.edges_into-first.result.0 c.edges_into-first.result.1 c.loop-place.place
+          c.edge_at-edge.result w.from.result w.index-rows-from.result w.deref.result.now c.requires.graph
+          c.requires.rows c.edges_into-first.ensures
+          c.loop-place.auto.place c.loop-place-test.true c.edge_at-edge.ensures.edge c.edge_at-edge.ensures.is_edge
+          w.if-edge-vertex.true w.from.ensures w.index-rows-from.is w.deref.ensures.value in
+          let weight_is = to_z-of_z w32 c.edge_at-edge.result.weight
+          (fits-weight c.edge_at-edge.result.weight c.edge_at-edge.ensures.is_edge.weight) in
           rw w.gains-is (record {
             long = w.raise_gains.ensures.length ∙ c.loop-place.invariant.long;
-            gained = gained-more c.args.graph.now (map (λ row. row.items) c.args.rows.now) c.args.vertex c.args.colour c.loop-place.place c.loop-place.gains
-                w.raise_gains.new.gains w.deref.result.now c.edge_at-edge.result c.edge_at-edge.ensures.edge w.if-edge-vertex.true head.into head.row head.long
-                (rw weight_is at w.raise_gains.ensures.raised) w.raise_gains.ensures.gains c.loop-place.invariant.gained;
+            gained = gained-more c.args.graph.now (map (λ row. row.items) c.args.rows.now) c.args.vertex c.args.colour
+                c.loop-place.place c.loop-place.gains
+                w.raise_gains.new.gains w.deref.result.now c.edge_at-edge.result c.edge_at-edge.ensures.edge
+                w.if-edge-vertex.true head.into head.row head.long
+                (rw weight_is at w.raise_gains.ensures.raised) w.raise_gains.ensures.gains
+                c.loop-place.invariant.gained;
             none = λ same. absurd (true_is_no (sym w.any-is ∙ same));
           })
       | else-edge-vertex w ↦
           rw w.gains-is (record {
             long = c.loop-place.invariant.long;
-            gained = gained-other c.args.graph.now (map (λ row. row.items) c.args.rows.now) c.args.vertex c.args.colour c.loop-place.place c.loop-place.gains
+            gained = gained-other c.args.graph.now (map (λ row. row.items) c.args.rows.now) c.args.vertex c.args.colour
+                c.loop-place.place c.loop-place.gains
                 c.edge_at-edge.result c.edge_at-edge.ensures.edge w.if-edge-vertex.false c.loop-place.invariant.gained;
             none = λ same. c.loop-place.invariant.none (sym w.any-is ∙ same);
           })
@@ -66,5 +85,7 @@ loop-place-preserved c =
 
 pub returns-clause-exact : goal.returns-clause-exact
 returns-clause-exact c =
-    gained-all c.args.graph.now (map (λ row. row.items) c.args.rows.now) c.args.vertex c.args.colour c.edges_into-first.result.0 c.edges_into-first.result.1 c.loop-place.place
-    c.loop-place.gains c.edges_into-first.ensures c.loop-place-test.false (c.loop-place.auto.place-end c.edges_into-first.ensures.in_order) c.loop-place.invariant.gained
+    gained-all c.args.graph.now (map (λ row. row.items) c.args.rows.now) c.args.vertex c.args.colour
+    c.edges_into-first.result.0 c.edges_into-first.result.1 c.loop-place.place
+    c.loop-place.gains c.edges_into-first.ensures c.loop-place-test.false
+    (c.loop-place.auto.place-end c.edges_into-first.ensures.in_order) c.loop-place.invariant.gained

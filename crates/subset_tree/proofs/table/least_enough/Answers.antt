@@ -5,7 +5,8 @@ use Rattle.subset_tree.proofs.Sums.{enough-none, fits-modest}
 use Rattle.subset_tree.proofs.table.least_enough.Goals as goal
 
 pub returns-then-any-clause-enough : goal.returns-then-any-clause-enough
-returns-then-any-clause-enough c = rw (to_z-of_z w64 c.greatest_sum.result (record { sfits = c.greatest_sum.type_inv })) c.greatest_sum.ensures.enough
+returns-then-any-clause-enough c = rw (to_z-of_z w64 c.greatest_sum.result (record { sfits = c.greatest_sum.type_inv }))
+    c.greatest_sum.ensures.enough
 
 pub returns-else-any-clause-enough : goal.returns-else-any-clause-enough
 returns-else-any-clause-enough c =

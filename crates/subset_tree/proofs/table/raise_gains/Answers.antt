@@ -29,5 +29,6 @@ loop-place-preserved c =
       long = length-set gains place c.raised.result ∙ known.long;
       done = raised-more gains old numbers weight c.raised.result place room (rw weight_is at known.done) is_old;
       rest = rest-more gains old c.raised.result place known.rest;
-      near = gains-more gains numbers weight c.raised.result place room known.near c.requires.numbers c.requires.weight.1 is;
+      near = gains-more gains numbers weight c.raised.result place room known.near c.requires.numbers
+          c.requires.weight.1 is;
     })

@@ -9,7 +9,8 @@ invariant-loop-set l = record {
   long : length l.numbers ≡ length l.initial.numbers;
   modest : AreModest l.numbers;
   below : (place : ℕ) → place < l.set → number_in l.numbers place ≡ number_in l.initial.numbers place;
-  kept : (place : ℕ) → l.set ≤ place → place < length l.gains → number_in l.numbers (2 * place) ≡ number_in l.initial.numbers place;
+  kept : (place : ℕ) → l.set ≤ place → place < length l.gains
+      → number_in l.numbers (2 * place) ≡ number_in l.initial.numbers place;
   grown : (set : List Bool) → l.set ≤ place_of set → place_of set < length l.gains → (upper : ℤ)
       → (number_in l.numbers (1 + 2 * place_of set) ≤ℤ upper) ↔ IsEnough l.initial.numbers l.gains set upper;
 }

@@ -31,9 +31,11 @@ returns c =
     elim c.loop-row-test.branch [
       | then-loop-row-test+else-edge_at-vertex w ↦
           let head = goes_there graph c.built.inside.graph rows row vertex w.index-rows-row.result w.edge_at.result
-          (ap (λ built. built.graph) c.built.view_is) w.loop-row-test.true w.edge_at.ensures.edge w.if-edge_at-vertex.false in
+          (ap (λ built. built.graph) c.built.view_is) w.loop-row-test.true w.edge_at.ensures.edge
+          w.if-edge_at-vertex.false in
           of_row row c.if-vertex-eq0.false refl w.loop-row-test.true head c.loop-row.invariant.others
       | else-loop-row-test w ↦
-          let is_root = none_is_root graph rows vertex row c.requires.reached c.loop-row.invariant.others w.loop-row-test.false in
+          let is_root = none_is_root graph rows vertex row c.requires.reached c.loop-row.invariant.others
+          w.loop-row-test.false in
           absurd (c.if-vertex-eq0.false is_root)
     ]

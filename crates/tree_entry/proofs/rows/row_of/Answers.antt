@@ -1,4 +1,5 @@
-use Rattle.std.proofs.Common.{◌≡◌, ◌<◌, ◌-◌, [], ◌∙◌, ℕ, List, length, get_or, slice_index, ap, subst, arith, rules, w32}
+use Rattle.std.proofs.Common.{◌≡◌, ◌<◌, ◌-◌, [], ◌∙◌, ℕ, List, length, get_or, slice_index, ap, subst, arith, rules}
+use Rattle.std.proofs.Common.{w32}
 use Rattle.std.proofs.lemmas.Int.{ints, to_z-of_z}
 use Rattle.std.proofs.lemmas.List.{get_or_default}
 use Rattle.tree_entry.specs.Rows.{IsParent}
@@ -10,7 +11,8 @@ use Rattle.tree_entry.proofs.AreRows.{IsRow-next}
 use Rattle.tree_entry.proofs.rows.row_of.Goals as goal
 
 -- the formula of a vertex as it was read
-formula_read : (inside built : LossGraphValue) (formulas : List (List ℕ)) (place vertex : ℕ) (read : List ℕ) → inside ≡ built
+formula_read : (inside built : LossGraphValue) (formulas : List (List ℕ)) (place vertex : ℕ) (read : List ℕ)
+    → inside ≡ built
     → formulas ≡ inside.formulas → read ≡ get_or formulas place read → place ≡ vertex → vertex < length inside.formulas
     → read ≡ formula_at built vertex
 formula_read inside built formulas place vertex read same items is at within =
@@ -41,8 +43,10 @@ returns-clause-row c =
     IsRow-next built rows _ (record {
       edge = c.requires.edge;
       rises = c.requires.rises;
-      parent = subst (λ (edge : Edge). IsParent built.graph rows (length rows) edge.tail c.parent_of.result) here c.parent_of.ensures;
-      peak = ap (λ (peaks : List ℕ). get_or peaks (c.from-3.result - 1) 0) (c.items.ensures ∙ ap (λ built. built.peaks) c.built.view_is)
+      parent = subst (λ (edge : Edge). IsParent built.graph rows (length rows) edge.tail c.parent_of.result) here
+          c.parent_of.ensures;
+      peak = ap (λ (peaks : List ℕ). get_or peaks (c.from-3.result - 1) 0) (c.items.ensures
+          ∙ ap (λ built. built.peaks) c.built.view_is)
           ∙ ap (λ n. slice_index built.peaks (n - 1)) colour;
       formula = head;
       loss = c.minus-loss.ensures ∙ ap (λ whole. loss_of whole c.index-formulas-from.result) tail

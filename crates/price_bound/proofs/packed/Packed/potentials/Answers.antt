@@ -21,11 +21,16 @@ loop-place-preserved-then-gain-gt0 c =
     let tail = c.from-tail.result in
     let number : ℤ = c.clamp.result in
     let number_is : to_z w64 (of_z w64 number) ≡ number = to_z-of_z w64 number (record { sfits = c.clamp.type_inv }) in
-    let within : c.loop-place.place - 1 < length c.args.self.now.groups.items = omega (arith, c.loop-place.invariant.within, c.loop-place-test.true) in
+    let within : c.loop-place.place - 1 < length c.args.self.now.groups.items =
+    omega (arith, c.loop-place.invariant.within, c.loop-place-test.true) in
     let row = c.requires.packed.groups (c.loop-place.place - 1) c.index-group.result.now within in
     let group_is = ap (λ g. g.tail) c.index-group.ensures in
-    let in_range : tail < length c.loop-place.potentials = omega (arith, c.from-tail.ensures, c.loop-place.invariant.long, row.tail, group_is) in
-    let is : IsHeld number = record { not_below = omega (arith, ints, c.clamp.ensures.lower_bound); not_above = omega (arith, ints, c.clamp.ensures.upper_bound) } in
+    let in_range : tail < length c.loop-place.potentials =
+    omega (arith, c.from-tail.ensures, c.loop-place.invariant.long, row.tail, group_is) in
+    let is : IsHeld number = record {
+      not_below = omega (arith, ints, c.clamp.ensures.lower_bound);
+      not_above = omega (arith, ints, c.clamp.ensures.upper_bound);
+    } in
     rw number_is (record {
       within = omega (arith, c.loop-place.invariant.within);
       long = length-set c.loop-place.potentials tail number ∙ c.loop-place.invariant.long;

@@ -1,7 +1,7 @@
 use Rattle.std.proofs.Common.{◌≡◌, ◌^◌, length, map}
 use Rattle.colour_graph.specs.Graph.{colour_count}
 use Rattle.subset_tree.specs.inside.Filling.{IsFilledTo}
-use Rattle.subset_tree.proofs.table.row_of.Given as goal
+use Rattle.subset_tree.proofs.table.filled_row.Given as goal
 
 abbrev pub invariant-loop-size : goal.invariant-loop-size
 invariant-loop-size l = record {
