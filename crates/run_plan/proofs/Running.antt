@@ -1,6 +1,5 @@
 -- `HasDone` and `Ends`: what the steps of a run keep, and how each of them ends it.
-use Rattle.std.proofs.Common.{◌≡◌, ◌≢◌, ◌≤◌, ◌<◌, ◌++◌, ◌⊎◌, inl, inr, ℕ, Bool, true, false, List, [], ◌∷◌, length, Option, Some, None, Result, Ok, Err, IfSome, sym, ◌∙◌, ap, subst, refl, arith, append-nil, length-append}
-use Rattle.std.proofs.Math.Nat.{lt_of_not-le}
+use Rattle.std.proofs.Common.{◌≡◌, ◌≤◌, ◌<◌, ◌++◌, ◌⊎◌, inl, inr, ℕ, Bool, true, false, List, [], ◌∷◌, length, Option, Some, None, Result, Ok, Err, IfSome, sym, ◌∙◌, ap, subst, refl, arith, append-nil, length-append}
 use Rattle.std.specs.Prelude.{Vec, is_some, option_and_then, ◌↔◌, IfOk}
 use Rattle.std.specs.declared.alloc.Global.{Global}
 use Rattle.std.proofs.lemmas.Option.{IfSome_then, MatchOption-at_some}
@@ -20,7 +19,7 @@ use Rattle.profile.specs.declared.fault.ProfileError.TheVariants as P
 use Rattle.run_plan.specs.ProfileTaken.{status_of_error}
 use Rattle.run_plan.specs.Plan.{HasBegun, Step, begin, read, write, finish, is_finish_of, is_finished_in, is_next, is_read_in, is_read_of, is_same_slot, is_write_to, is_written_in, name_in, text_in}
 use Rattle.run_plan.specs.Causes.{CauseOf, IsUnwritten}
-use Rattle.run_plan.specs.Class.{Class, class_of, no_order, ended, refused, memory, open_fault, read_fault, write_fault, too_long, IsAnswer, IsLast, StopsAt}
+use Rattle.run_plan.specs.Class.{Class, class_of, no_order, ended, refused, memory, open_fault, read_fault, write_fault, too_long, IsAnswer, StopsAt}
 use Rattle.run_plan.specs.Limits.{AreWithinLimits, FitsLimit, IsLeft, greatest_text_of}
 use Rattle.run_plan.specs.Running.{Ends, HasDone, open_status_of, read_status_of, write_status_of}
 use Rattle.run_plan.specs.declared.status.Status.{Status}

@@ -9,7 +9,7 @@ use Rattle.frag_io.specs.DeskState.{DeskState}
 use Rattle.frag_io.specs.Desk.{appended}
 use Rattle.frag_io.specs.Slot.{Gains, IsWritten, Same}
 use Rattle.run_plan.specs.Class.{class_of, ended}
-use Rattle.run_plan.specs.Plan.{Step, begin, document_steps, is_read_in, is_read_of, read, text_steps}
+use Rattle.run_plan.specs.Plan.{Step, begin, document_steps, is_read_in, is_read_of}
 use Rattle.run_plan.specs.Running.{Ends, HasDone}
 use Rattle.run_plan.specs.TextSteps.{begin_of}
 use Rattle.run_plan.specs.declared.status.Status.{Status}

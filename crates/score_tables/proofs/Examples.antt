@@ -1,5 +1,5 @@
 -- Of the scores: worked examples under the default tables, computed.
-use Rattle.std.specs.Prelude.{◌≡◌, ◌*◌, ◌^◌, ◌++◌, ℕ, ℤ, pos, neg_ℤ, List, [], ◌∷◌, map, replicate, refl}
+use Rattle.std.specs.Prelude.{◌≡◌, ◌^◌, ◌++◌, ℕ, ℤ, pos, neg_ℤ, List, [], ◌∷◌, map, replicate, refl}
 use Rattle.score_tables.specs.Default.{atoms, default_scores, default_tables}
 use Rattle.score_tables.specs.Scores.{error_score_of, loss_score_of, peak_score_of}
 

@@ -1,4 +1,4 @@
-use Rattle.std.proofs.Common.{to_z, of_z, w32}
+use Rattle.std.proofs.Common.{w32}
 use Rattle.std.proofs.lemmas.Int.{to_z-of_z}
 use Rattle.loss_graph.proofs.Weights.{IsScore-sum, SFits-score}
 use Rattle.loss_graph.proofs.edges.weight_between.Goals as goal

@@ -1,7 +1,6 @@
 use Rattle.std.proofs.Common.{◌≡◌, ◌⊎◌, ◌++◌, ◌∙◌, ℕ, List, [], ◌∷◌, Option, None, Some, Result, Ok, option_map, ap, IfSome, refl, sym, subst}
 use Rattle.std.proofs.lemmas.Option.{IfSome_then}
 use Rattle.std.proofs.lemmas.Result.{err_from_is_err_and}
-use Rattle.frag_io.specs.DeskState.{DeskState}
 use Rattle.frag_io.specs.declared.desk.Slot.TheVariants.{Profile}
 use Rattle.profile.specs.Profile.{ProfileValue}
 use Rattle.profile.specs.ProfileOf.{profile_of}
@@ -9,7 +8,7 @@ use Rattle.profile.specs.declared.fault.ProfileFault.{ProfileFault}
 use Rattle.run_plan.specs.Class.{class_of, memory, IsOfProfile}
 use Rattle.run_plan.specs.Plan.{begin, profile_steps, read}
 use Rattle.run_plan.specs.ProfilePromise.{ProfilePromise}
-use Rattle.run_plan.specs.Running.{Ends, HasDone}
+use Rattle.run_plan.specs.Running.{Ends}
 use Rattle.run_plan.proofs.Running.{done_nothing, error_ends, unfinished}
 use Rattle.run_plan.proofs.ProfilePromise.{accepted_profile, error_promise, own_error, own_open, own_read, stopped_promise}
 use Rattle.run_plan.proofs.profile_text.read_named.Goals as goal

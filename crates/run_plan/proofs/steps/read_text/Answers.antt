@@ -1,4 +1,4 @@
-use Rattle.std.proofs.Common.{◌≡◌, ◌≤◌, ◌∙◌, ◌++◌, ◌∷◌, ap, refl, sym, subst, length, Err, IfSome, ℕ}
+use Rattle.std.proofs.Common.{◌≤◌, ◌++◌, ◌∷◌, sym, subst, length, IfSome, ℕ}
 use Rattle.frag_io.specs.Whole.{ReadsWhole}
 use Rattle.run_plan.specs.Plan.{read}
 use Rattle.run_plan.specs.Running.{Ends}

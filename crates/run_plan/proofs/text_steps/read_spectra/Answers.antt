@@ -1,4 +1,4 @@
-use Rattle.std.proofs.Common.{◌++◌, ◌∙◌, List, [], ◌∷◌, refl, subst}
+use Rattle.std.proofs.Common.{◌++◌, List, [], ◌∷◌, subst}
 use Rattle.std.specs.Prelude.{IfErr, OnOk, option_map}
 use Rattle.std.proofs.lemmas.Result.{err_from_is_err_and}
 use Rattle.frag_io.specs.declared.desk.Slot.TheVariants.{Spectra, Report}
