@@ -2,6 +2,7 @@ use Rattle.run_plan.specs.Plan.{profile_steps}
 use Rattle.order_words.specs.NamesOf.{document_names_of}
 use Rattle.check_command.proofs.CheckPromise.{taken_check}
 use Rattle.run_plan.proofs.ProfilePromise.{taken_promise}
+use Rattle.check_command.specs.CheckPlan.{check_steps_of}
 use Rattle.check_command.proofs.checking.check.Goals as goal
 
 pub returns-in-Ok-check_under-clause-promise : goal.returns-in-Ok-check_under-clause-promise
@@ -43,3 +44,8 @@ returns-clause-profile g c =
     taken_promise (document_names_of c.args.names.now).profile (g.D.Desk.state c.args.desk.now)
     (g.D.Desk.state c.check_under.new.desk) _ _
     c.in-Ok.ensures.taken c.in-Err-check_under.ensures.own
+
+pub returns-in-Err-clause-ends : goal.returns-in-Err-clause-ends
+returns-in-Err-clause-ends g c =
+    c.in-Err.ensures.ends
+    (check_steps_of (document_names_of c.args.names.now).spectra (document_names_of c.args.names.now).document)

@@ -4,6 +4,7 @@ use Rattle.right_document.specs.SolveSettings.{solve_settings_of}
 use Rattle.solve_command.specs.SolvePromise.{solve_meaning}
 use Rattle.run_plan.proofs.ProfilePromise.{taken_promise}
 use Rattle.run_plan.proofs.TextPromise.{stopped_text, taken_text}
+use Rattle.solve_command.specs.SolvePlan.{solve_steps_of}
 use Rattle.solve_command.proofs.solving.solve.Goals as goal
 
 pub returns-in-Err-clause-promise : goal.returns-in-Err-clause-promise
@@ -58,3 +59,8 @@ returns-clause-profile g c =
     taken_promise (document_names_of c.args.names.now).profile (g.D.Desk.state c.args.desk.now)
     (g.D.Desk.state c.solve_under.new.desk) _ _
     c.in-Ok.ensures.taken c.in-Err-solve_under.ensures.own
+
+pub returns-in-Err-clause-ends : goal.returns-in-Err-clause-ends
+returns-in-Err-clause-ends g c =
+    c.in-Err.ensures.ends
+    (solve_steps_of (document_names_of c.args.names.now).spectra (document_names_of c.args.names.now).document)
