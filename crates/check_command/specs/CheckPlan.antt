@@ -1,4 +1,5 @@
--- The plan of the command `check`: it begins the text, the document and the report, reads the text and then the document,
+-- The plan of the command `check`: it begins the text, the document and the report, reads the text and then the
+-- document,
 -- and writes the report.
 use Rattle.std.specs.Prelude.{◌++◌, ℕ, List, ◌∷◌, Some}
 use Rattle.frag_io.specs.declared.desk.Slot.TheVariants.{CertIn}

@@ -29,7 +29,7 @@ AcceptedAlone = (settings : SolveSettingsValue) (text bytes : List ℕ) (count :
     → IsOutcome settings text bytes other → other ≡ accepted count fault
 
 -- the status that tells a text which is read with this fault
-answer_to : Option MgfFault → Status
+abbrev answer_to : Option MgfFault → Status
 answer_to None = Done
 answer_to (Some fault) = MgfRefused fault
 
@@ -46,12 +46,15 @@ same_fault count other one fault same = cc
 
 -- a check of bytes that are accepted answers no otherwise
 checked_as : AcceptedAlone → (settings : SolveSettingsValue) (text bytes : List ℕ) (status : Status)
-    (written : Slot → Option (List ℕ)) (count : ℕ) (fault : Option MgfFault) → IsOutcome settings text bytes (accepted count fault)
+    (written : Slot → Option (List ℕ)) (count : ℕ) (fault : Option MgfFault) → IsOutcome settings text bytes (accepted
+    count fault)
     → CheckAnswers settings text bytes status written → status ≡ answer_to fault
 checked_as alone settings text bytes Done written count fault is told =
-    subst (λ f. Done ≡ answer_to f) (same_fault told.0 count None fault (alone settings text bytes count fault _ is told.1)) refl
+    subst (λ f. Done ≡ answer_to f) (same_fault told.0 count None fault (alone settings text bytes count fault _ is
+    told.1)) refl
 checked_as alone settings text bytes (MgfRefused own) written count fault is told =
-    subst (λ f. MgfRefused own ≡ answer_to f) (same_fault told.0 count (Some own) fault (alone settings text bytes count fault _ is told.1)) refl
+    subst (λ f. MgfRefused own ≡ answer_to f) (same_fault told.0 count (Some own) fault (alone settings text bytes
+    count fault _ is told.1)) refl
 checked_as alone settings text bytes (DocumentRefused own) written count fault is told =
     absurd (other (alone settings text bytes count fault (refused own) is told))
   where
@@ -72,15 +75,18 @@ answered_alike right alone names before now later last solved checked both =
     MatchOption-at_some _ (λ text. OwesText (solve_meaning settings text) text now solved) both.text both.solved_text
     (both.solve both.profile both.solved_profile) in
     let checking : OwesText (check_meaning settings both.text both.bytes) both.text last checked =
-    MatchOption-at_some _ (λ bytes. OwesText (check_meaning settings both.text bytes) both.text last checked) both.bytes both.document
-    (MatchOption-at_some _ (λ text. IfSome (later.gives names.document) (λ bytes. OwesText (check_meaning settings text bytes) text last checked))
+    MatchOption-at_some _ (λ bytes. OwesText (check_meaning settings both.text bytes) both.text last checked)
+    both.bytes both.document
+    (MatchOption-at_some _ (λ text. IfSome (later.gives names.document) (λ bytes. OwesText (check_meaning settings
+    text bytes) text last checked))
     both.text both.checked_text (both.check both.profile both.checked_profile)) in
     let answer = solved_as settings both.text solved now.written (solving.leaves.answer both.solved_answer) in
     let document : Document = answer.1.document in
     let spelled : both.bytes ≡ spelling_of document =
     MatchOption-at_some _ (λ bytes. bytes ≡ spelling_of document) both.bytes both.wrote answer.1.spelled in
     let outcome : IsOutcome settings both.text both.bytes (accepted (length document.sections) answer.0) =
-    subst (λ (bytes : List ℕ). IsOutcome settings both.text bytes (accepted (length document.sections) answer.0)) (sym spelled)
+    subst (λ (bytes : List ℕ). IsOutcome settings both.text bytes (accepted (length document.sections) answer.0)) (sym
+    spelled)
     (right settings both.text answer.0 document answer.1.good answer.1.right) in
     checked_as alone settings both.text both.bytes checked last.written (length document.sections) answer.0 outcome
     (checking.leaves.answer both.checked_answer) ∙ sym answer.2

@@ -10,10 +10,12 @@ use Rattle.run_plan.specs.ProfilePromise.{profile_outcome}
 use Rattle.run_plan.specs.declared.status.Status.{Status}
 use Rattle.solve_command.specs.SolvePromise.{SolvePromise}
 
--- The first run, between the states before it and after it, kept the promise of `solve` and answered; the other, between
+-- The first run, between the states before it and after it, kept the promise of `solve` and answered; the other,
+-- between
 -- later states, kept that of `check` and answered. Both were told the same text and the same profile, and the other was
 -- told the bytes that the first wrote to its document.
-pub record SolvedAndChecked (names : DocumentNames) (before now later last : DeskState) (solved checked : Status) : Type 0 where
+pub record SolvedAndChecked (names : DocumentNames) (before now later last : DeskState) (solved checked : Status) :
+    Type 0 where
   pub profile : ProfileValue
   pub text : List ℕ
   pub bytes : List ℕ

@@ -19,7 +19,7 @@ mod laws;
 
 use frag_io::Desk;
 pub use laws::what_solve_wrote_check_accepts;
-use order_words::{Order, read_order};
+use order_words::read_order;
 pub use right_document::a_spectrum_has_one_outline;
 pub use run_plan::{GREATEST_DOCUMENT, GREATEST_TEXT, RejectPart, RejectPlace, Status, fault_text};
 use std::alloc::Global;
@@ -48,9 +48,9 @@ pub fn run<D: Desk>(alloc: Global, words: &[String], desk: &mut D) -> Status
         → CheckPromise names (D.state desk.old) (D.state desk.new) result }
 {
     match read_order(words) {
-        Some(Order::List(names)) => list_command::list(alloc, &names, desk),
-        Some(Order::Solve(names)) => solve_command::solve(alloc, &names, desk),
-        Some(Order::Check(names)) => check_command::check(alloc, &names, desk),
+        Some(order_words::Order::List(names)) => list_command::list(alloc, &names, desk),
+        Some(order_words::Order::Solve(names)) => solve_command::solve(alloc, &names, desk),
+        Some(order_words::Order::Check(names)) => check_command::check(alloc, &names, desk),
         None => Status::Words,
     }
 }

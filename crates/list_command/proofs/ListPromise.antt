@@ -17,7 +17,8 @@ use Rattle.list_command.proofs.IsReport.{part_of}
 use Rattle.run_plan.proofs.TextPromise.{answered_owes, partly_owes, written_alone}
 
 -- what is owed where the report was not written whole
-pub partly_lists : (settings : RunSettingsValue) (text : List ℕ) (now : DeskState) (before : Option (List ℕ)) (found : Option MgfFault)
+pub partly_lists : (settings : RunSettingsValue) (text : List ℕ) (now : DeskState) (before : Option (List ℕ)) (found :
+    Option MgfFault)
     (bytes : List ℕ) (n : ℕ) (status : Status)
     → IsWriteStop (class_of status)
     → length text ≤ greatest_text_of Spectra
@@ -31,25 +32,31 @@ partly_lists settings text now before found bytes n status stop short right empt
     (part_of settings text found bytes n right))
 
 -- the whole report was written
-listed : (settings : RunSettingsValue) (text : List ℕ) (now before : Option (List ℕ)) (found fault : Option MgfFault) (bytes : List ℕ)
-    → found ≡ fault → IsReport settings text found bytes → IsEmpty before → now ≡ appended before bytes → IsListed settings text fault now
+listed : (settings : RunSettingsValue) (text : List ℕ) (now before : Option (List ℕ)) (found fault : Option MgfFault)
+    (bytes : List ℕ)
+    → found ≡ fault → IsReport settings text found bytes → IsEmpty before → now ≡ appended before bytes → IsListed
+    settings text fault now
 listed settings text now before found fault bytes told right empty is =
     let whole : IsReport settings text fault bytes = subst (λ f. IsReport settings text f bytes) told right in
     ((whole.spectra, whole.reads), written_alone before now bytes (IsReport settings text fault) empty is whole)
 
 -- what is owed where the whole report was written
-pub done_lists : (settings : RunSettingsValue) (text : List ℕ) (now : DeskState) (before : Option (List ℕ)) (found : Option MgfFault)
+pub done_lists : (settings : RunSettingsValue) (text : List ℕ) (now : DeskState) (before : Option (List ℕ)) (found :
+    Option MgfFault)
     (bytes : List ℕ)
     → found ≡ None → IsReport settings text found bytes → IsEmpty before → now.written Report ≡ appended before bytes
     → OwesText (list_meaning settings text) text now Done
 done_lists settings text now before found bytes clean right empty is =
-    answered_owes (list_meaning settings text) text now Done tt (listed settings text (now.written Report) before found None bytes clean
+    answered_owes (list_meaning settings text) text now Done tt (listed settings text (now.written Report) before
+    found None bytes clean
     right empty is)
 
 -- what is owed where the whole report was written of a text that a line refuses
-pub refused_lists : (settings : RunSettingsValue) (text : List ℕ) (now : DeskState) (before : Option (List ℕ)) (found : Option MgfFault)
+pub refused_lists : (settings : RunSettingsValue) (text : List ℕ) (now : DeskState) (before : Option (List ℕ)) (found
+    : Option MgfFault)
     (fault : MgfFault) (bytes : List ℕ)
-    → found ≡ Some fault → IsReport settings text found bytes → IsEmpty before → now.written Report ≡ appended before bytes
+    → found ≡ Some fault → IsReport settings text found bytes → IsEmpty before → now.written Report ≡ appended before
+    bytes
     → OwesText (list_meaning settings text) text now (MgfRefused fault)
 refused_lists settings text now before found fault bytes told right empty is =
     answered_owes (list_meaning settings text) text now (MgfRefused fault) tt

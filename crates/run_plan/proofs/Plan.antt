@@ -37,7 +37,8 @@ slot_is one other is = elim (same_slot one other) [
 ]
 
 pub slot_differs : (one other : Slot) → is_same_slot one other ≡ false → other ≢ one
-slot_differs one other differs = λ same. not_both (is_same_slot one other) differs (ap (is_same_slot one) same ∙ is_same_slot-own one)
+slot_differs one other differs = λ same. not_both (is_same_slot one other) differs (ap (is_same_slot one) same ∙
+    is_same_slot-own one)
 
 pub none_in : (found : Option (List ℕ)) → is_some found ≡ false → found ≡ None
 none_in None is = refl
@@ -52,7 +53,8 @@ if_none : (same : Bool) (name : List ℕ) (rest : Option (List ℕ)) → (if sam
 if_none true name rest is = cc
 if_none false name rest is = (refl, is)
 
-if_some : (same : Bool) (own name : List ℕ) (rest more : Option (List ℕ)) → (if same then Some own else rest) ≡ Some name
+if_some : (same : Bool) (own name : List ℕ) (rest more : Option (List ℕ)) → (if same then Some own else rest) ≡ Some
+    name
     → (rest ≡ Some name → more ≡ Some name) → (if same then Some own else more) ≡ Some name
 if_some true own name rest more is next = is
 if_some false own name rest more is next = next is
@@ -91,7 +93,8 @@ pub name_in-same : (done : List Step) (step : Step) (slot : Slot) → name_in (s
     → name_in (done ++ step ∷ []) slot ≡ name_in done slot
 name_in-same done step slot none = by_name (name_in done slot) refl
   where
-    by_name : (found : Option (List ℕ)) → name_in done slot ≡ found → name_in (done ++ step ∷ []) slot ≡ name_in done slot
+    by_name : (found : Option (List ℕ)) → name_in done slot ≡ found → name_in (done ++ step ∷ []) slot ≡ name_in done
+        slot
     by_name None is = name_in-later done (step ∷ []) slot is ∙ none ∙ sym is
     by_name (Some name) is = name_in-earlier done (step ∷ []) slot name is ∙ sym is
 
@@ -102,7 +105,8 @@ name_in-other done own slot name differs =
 
 -- what holds of the text of a slot does so behind a step that does not begin it
 pub text_on : (done : List Step) (step : Step) (before : DeskState) (slot : Slot) (P : List ℕ → Type 0)
-    → name_in (step ∷ []) slot ≡ None → IfSome (text_in done before slot) P → IfSome (text_in (done ++ step ∷ []) before slot) P
+    → name_in (step ∷ []) slot ≡ None → IfSome (text_in done before slot) P → IfSome (text_in (done ++ step ∷ [])
+    before slot) P
 text_on done step before slot P none =
     subst (λ o. IfSome (option_and_then before.gives o) P) (sym (name_in-same done step slot none))
 

@@ -20,11 +20,14 @@ never_memory None same = cc
 never_memory (Some fault) same = cc
 
 -- A new reader that is fed a text whole and ended has read it.
-pub read_to_end : (before middle after : ReaderValue) (text : List ℕ) (fed ended : Result (Unit {0}) FeedFault) (fault : Option MgfFault)
+pub read_to_end : (before middle after : ReaderValue) (text : List ℕ) (fed ended : Result (Unit {0}) FeedFault) (fault
+    : Option MgfFault)
     → Stands before [] []
-    → (fed ≢ Err OutOfMemory → (t : List ℕ) (out : List SpectrumValue) → Stands before t out → Stands middle (t ++ text) out)
+    → (fed ≢ Err OutOfMemory → (t : List ℕ) (out : List SpectrumValue) → Stands before t out → Stands middle (t ++
+    text) out)
     → (fed ≡ Err OutOfMemory → ended ≡ Err OutOfMemory)
-    → (ended ≢ Err OutOfMemory → (t : List ℕ) (out : List SpectrumValue) → Stands middle t out → Answers (Reads t) (out ++ after.waiting) ended)
+    → (ended ≢ Err OutOfMemory → (t : List ℕ) (out : List SpectrumValue) → Stands middle t out → Answers (Reads t)
+    (out ++ after.waiting) ended)
     → ended ≡ answer_of fault
     → Reads text after.waiting fault
 read_to_end before middle after text fed ended fault new feeds breaks ends is =

@@ -34,7 +34,8 @@ unwritten_owes meaning text now status unwritten other unfailed = record {
     formed class none = tt
 
 -- a class that stops a command before it writes is none of these
-pub stop_of_text : (class : Class) → IsTextStop class → (IsAnswer class → ⊥) × ((slot : Slot) → class ≡ write_fault slot → ⊥)
+pub stop_of_text : (class : Class) → IsTextStop class → (IsAnswer class → ⊥) × ((slot : Slot) → class ≡ write_fault
+    slot → ⊥)
     × (IsOfProfile class → ⊥) × (class ≡ no_order → ⊥)
 stop_of_text no_order stop = absurd stop
 stop_of_text ended stop = absurd stop
@@ -58,7 +59,8 @@ stop_of_text (too_long slot) stop = ((λ is. is), (λ other told. cc), not_profi
     not_profile slot stop is = is
 
 -- a class that its profile leads to is no failed write
-pub profile_writes_nothing : (class : Class) → (class ≡ memory) ⊎ IsOfProfile class → (slot : Slot) → class ≡ write_fault slot → ⊥
+pub profile_writes_nothing : (class : Class) → (class ≡ memory) ⊎ IsOfProfile class → (slot : Slot) → class ≡
+    write_fault slot → ⊥
 profile_writes_nothing class (inl no_memory) slot told = clash (sym no_memory) told
   where
     clash : memory ≡ class → class ≡ write_fault slot → ⊥
@@ -66,14 +68,16 @@ profile_writes_nothing class (inl no_memory) slot told = clash (sym no_memory) t
 profile_writes_nothing class (inr of) slot told = subst IsOfProfile told of
 
 -- what was written to an empty slot is all that is there
-pub written_alone : (before now : Option (List ℕ)) (bytes : List ℕ) (P : List ℕ → Type 0) → IsEmpty before → now ≡ appended before bytes
+pub written_alone : (before now : Option (List ℕ)) (bytes : List ℕ) (P : List ℕ → Type 0) → IsEmpty before → now ≡
+    appended before bytes
     → P bytes → IfSome now P
 written_alone None now bytes P empty is holds = subst (λ o. IfSome o P) (sym is) tt
 written_alone (Some old) now bytes P empty is holds =
     subst (λ o. IfSome o P) (sym is) (subst (λ (b : List ℕ). P (b ++ bytes)) (sym empty) holds)
 
 -- what is owed where the writes stopped early
-pub partly_owes : (meaning : Meaning) (text : List ℕ) (now : DeskState) (status : Status) → IsWriteStop (class_of status)
+pub partly_owes : (meaning : Meaning) (text : List ℕ) (now : DeskState) (status : Status) → IsWriteStop (class_of
+    status)
     → length text ≤ greatest_text_of Spectra → meaning.part now.written → OwesText meaning text now status
 partly_owes meaning text now status stop short part = record {
   leaves = record { answer = λ is. absurd (no_answer (class_of status) stop is); early = λ stops. inr part };
@@ -105,20 +109,25 @@ answered_owes meaning text now status is right = record {
     formed class is = absurd is
 
 -- the promise of a command that its profile stopped
-pub stopped_text : (meaning : ProfileValue → List ℕ → Meaning) (profile_name : Option (List ℕ)) (name : List ℕ) (before now : DeskState)
+pub stopped_text : (meaning : ProfileValue → List ℕ → Meaning) (profile_name : Option (List ℕ)) (name : List ℕ)
+    (before now : DeskState)
     (status : Status) → IsUnwritten now
     → (class_of status ≡ memory) ⊎ IsOfProfile (class_of status)
-    → ((profile : ProfileValue) → profile_outcome before.gives profile_name ≡ Some (Ok profile) → IsAnswer (class_of status) → ⊥)
+    → ((profile : ProfileValue) → profile_outcome before.gives profile_name ≡ Some (Ok profile) → IsAnswer (class_of
+    status) → ⊥)
     → TextPromise meaning profile_name name before now status
 stopped_text meaning profile_name name before now status unwritten own accepted = λ profile is.
     at_some (before.gives name) (λ text. OwesText (meaning profile text) text now status) (λ text told.
-    unwritten_owes (meaning profile text) text now status unwritten (accepted profile is) (profile_writes_nothing (class_of status) own))
+    unwritten_owes (meaning profile text) text now status unwritten (accepted profile is) (profile_writes_nothing
+    (class_of status) own))
 
 -- what holds of a profile that was taken holds of the one that is told
-pub taken_for : (P : ProfileValue → Type 0) (gives : List ℕ → Option (List ℕ)) (profile_name : Option (List ℕ)) (profile : ProfileValue)
+pub taken_for : (P : ProfileValue → Type 0) (gives : List ℕ → Option (List ℕ)) (profile_name : Option (List ℕ))
+    (profile : ProfileValue)
     → IsTaken gives profile_name profile → P profile
     → (told : ProfileValue) → profile_outcome gives profile_name ≡ Some (Ok told) → P told
-taken_for P gives profile_name profile taken holds told is = subst P (same_profile profile told (taken (Ok told) is)) holds
+taken_for P gives profile_name profile taken holds told is = subst P (same_profile profile told (taken (Ok told) is))
+    holds
   where
     the_outcome : ProfileValue → Result ProfileValue ProfileFault
     the_outcome profile = Ok profile
@@ -127,18 +136,21 @@ taken_for P gives profile_name profile taken holds told is = subst P (same_profi
     same_profile one other same = cc
 
 -- the promise of a command behind a profile that was taken
-pub taken_text : (meaning : ProfileValue → List ℕ → Meaning) (profile_name : Option (List ℕ)) (name : List ℕ) (before mid now : DeskState)
+pub taken_text : (meaning : ProfileValue → List ℕ → Meaning) (profile_name : Option (List ℕ)) (name : List ℕ) (before
+    mid now : DeskState)
     (profile : ProfileValue) (status : Status)
     → IsTaken before.gives profile_name profile
     → mid.gives name ≡ before.gives name
     → IfSome (mid.gives name) (λ text. OwesText (meaning profile text) text now status)
     → TextPromise meaning profile_name name before now status
 taken_text meaning profile_name name before mid now profile status taken same owes =
-    taken_for (λ told. IfSome (before.gives name) (λ text. OwesText (meaning told text) text now status)) before.gives profile_name profile
+    taken_for (λ told. IfSome (before.gives name) (λ text. OwesText (meaning told text) text now status)) before.gives
+    profile_name profile
     taken (subst (λ o. IfSome o (λ text. OwesText (meaning profile text) text now status)) same owes)
 
 -- a class that its profile leads to is none of words
-pub profile_is_ordered : (status : Status) → (class_of status ≡ memory) ⊎ IsOfProfile (class_of status) → status ≡ Words → ⊥
+pub profile_is_ordered : (status : Status) → (class_of status ≡ memory) ⊎ IsOfProfile (class_of status) → status ≡
+    Words → ⊥
 profile_is_ordered status own told = by_class (subst (λ s. (class_of s ≡ memory) ⊎ IsOfProfile (class_of s)) told own)
   where
     by_class : (no_order ≡ memory) ⊎ IsOfProfile no_order → ⊥

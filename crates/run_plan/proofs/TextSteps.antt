@@ -34,7 +34,8 @@ both (Ok value) P Q one other = (one, other)
 both (Err error) P Q one other = tt
 
 -- the slots that a begin of another one leaves
-pub others_begun : {T E : Type 0} (result : Result T E) (own : Slot) (before now : Slot → Bool) → OnOk result (Gains own before now)
+pub others_begun : {T E : Type 0} (result : Result T E) (own : Slot) (before now : Slot → Bool) → OnOk result (Gains
+    own before now)
     → OnErr result (Same before now)
     → (slot : Slot) → slot ≢ own → now slot ≡ before slot
 others_begun (Ok value) own before now gains same slot other = gains.others slot other
@@ -53,7 +54,8 @@ behind_middle done middle last later first =
     append_assoc (done ++ first ∷ []) middle (last ++ later) ∙ behind_first done middle last later first
 
 pub behind_third : (done middle later : List Step) (first third last : Step)
-    → (((done ++ first ∷ []) ++ middle) ++ third ∷ []) ++ (last ∷ later) ≡ done ++ (first ∷ ((middle ++ third ∷ last ∷ []) ++ later))
+    → (((done ++ first ∷ []) ++ middle) ++ third ∷ []) ++ (last ∷ later) ≡ done ++ (first ∷ ((middle ++ third ∷ last ∷
+    []) ++ later))
 behind_third done middle later first third last =
     append_assoc ((done ++ first ∷ []) ++ middle) (third ∷ []) (last ∷ later)
     ∙ behind_middle done middle (third ∷ last ∷ []) later first
@@ -61,9 +63,11 @@ behind_third done middle later first third last =
 pub all_done : (done middle : List Step) (first third last : Step)
     → (((done ++ first ∷ []) ++ middle) ++ third ∷ []) ++ (last ∷ []) ≡ done ++ (first ∷ (middle ++ third ∷ last ∷ []))
 all_done done middle first third last =
-    behind_third done middle [] first third last ∙ ap (λ (steps : List Step). done ++ first ∷ steps) (append-nil (middle ++ third ∷ last ∷ []))
+    behind_third done middle [] first third last ∙ ap (λ (steps : List Step). done ++ first ∷ steps) (append-nil
+    (middle ++ third ∷ last ∷ []))
 
-pub ends_as : (one other : List Step) (before now : DeskState) (status : Status) → one ≡ other → Ends one before now status
+pub ends_as : (one other : List Step) (before now : DeskState) (status : Status) → one ≡ other → Ends one before now
+    status
     → Ends other before now status
 ends_as one other before now status same = subst (λ (steps : List Step). Ends steps before now status) same
 
@@ -72,7 +76,8 @@ pub ends_behind : (done some later : List Step) (before now : DeskState) (status
 ends_behind done some later before now status = ends_as _ _ before now status (append_assoc done some later)
 
 -- three steps that are done one by one
-pub behind_two : (done later : List Step) (one two : Step) → ((done ++ one ∷ []) ++ two ∷ []) ++ later ≡ done ++ (one ∷ two ∷ later)
+pub behind_two : (done later : List Step) (one two : Step) → ((done ++ one ∷ []) ++ two ∷ []) ++ later ≡ done ++ (one
+    ∷ two ∷ later)
 behind_two done later one two =
     append_assoc (done ++ one ∷ []) (two ∷ []) later ∙ append_assoc done (one ∷ []) (two ∷ later)
 
@@ -84,7 +89,8 @@ behind_three done later one two three =
 -- a slot that neither some steps nor those behind them read
 pub unread_behind : (done some : List Step) (slot : Slot) → is_read_in done slot ≡ false → is_read_in some slot ≡ false
     → is_read_in (done ++ some) slot ≡ false
-unread_behind done some slot is also = list_any-append (is_read_of slot) done some ∙ none (is_read_in done slot) (is_read_in some slot) is also
+unread_behind done some slot is also = list_any-append (is_read_of slot) done some ∙ none (is_read_in done slot)
+    (is_read_in some slot) is also
   where
     none : (one other : Bool) → one ≡ false → other ≡ false → (one || other) ≡ false
     none false other is also = also
@@ -92,7 +98,8 @@ unread_behind done some slot is also = list_any-append (is_read_of slot) done so
 
 -- a text is unread as long as slots are begun
 pub still_unread : (done : List Step) (document : Option DocumentSlot) (name : List ℕ) → is_read_in done Spectra ≡ false
-    → is_read_in (((done ++ begin Spectra name ∷ []) ++ document_steps (option_map begin_of document)) ++ begin Report [] ∷ []) Spectra ≡ false
+    → is_read_in (((done ++ begin Spectra name ∷ []) ++ document_steps (option_map begin_of document)) ++ begin Report
+    [] ∷ []) Spectra ≡ false
 still_unread done None name is =
     any_same (is_read_of Spectra) ((done ++ begin Spectra name ∷ []) ++ []) (begin Report []) refl
     ∙ ap (λ (steps : List Step). is_read_in steps Spectra) (append-nil (done ++ begin Spectra name ∷ []))
@@ -109,7 +116,8 @@ no_written is = cc
 pub outputs_ended : (plan : List Step) (before now : DeskState) (status : Status) → class_of status ≡ ended
     → HasDone plan before now → (now.begun CertOut ≡ true → now.finished CertOut ≡ true) → now.finished Report ≡ true
     → Ends plan before now status
-outputs_ended plan before now status is did document_done report_done = ended_ends plan before now status is did all_finished
+outputs_ended plan before now status is did document_done report_done = ended_ends plan before now status is did
+    all_finished
   where
     all_finished : (slot : Slot) → IsWritten slot → now.begun slot ≡ true → now.finished slot ≡ true
     all_finished Report written begun = report_done
@@ -130,5 +138,6 @@ pub appended_none : (before : Option (List ℕ)) (bytes : List ℕ) → before �
 appended_none None bytes = refl
 appended_none (Some old) bytes = ap Some (sym (append-nil old))
 
-pub appended_all : (before : Option (List ℕ)) (bytes : List ℕ) → appended before bytes ≡ appended before (take (length bytes) bytes)
+pub appended_all : (before : Option (List ℕ)) (bytes : List ℕ) → appended before bytes ≡ appended before (take (length
+    bytes) bytes)
 appended_all before bytes = ap (appended before) (sym (take-length bytes))

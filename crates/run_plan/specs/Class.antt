@@ -47,7 +47,8 @@ IsNext step rest = (later : List Step) × (rest ≡ step ∷ later)
 abbrev pub IsLast : Step → List Step → Type 0
 IsLast step done = (earlier : List Step) × (done ≡ earlier ++ step ∷ [])
 
--- Where a run of this class stops, behind the steps that were done and before the rest. At the end of all work no step is
+-- Where a run of this class stops, behind the steps that were done and before the rest. At the end of all work no
+-- step is
 -- left; what is refused was read in the last step; a fault is that of the next step; and memory may lack anywhere.
 abbrev pub StopsAt : Class → List Step → List Step → Type 0
 StopsAt no_order done rest = ⊥

@@ -10,9 +10,12 @@ use Rattle.run_plan.specs.Plan.{HasBegun, Step, is_finished_in, is_next, is_read
 use Rattle.run_plan.specs.declared.status.Status.{Status}
 
 -- The first steps of the plan were done, the next one was not, and no later one was begun. Exactly the slots were begun
--- that these steps begin, each under its name, and exactly those finished that they finish. A text that they read was read
--- whole, within its limit; one that the next step reads was read up to its limit at most; of any other nothing was read.
--- Nothing was written to a slot but where they write to it, or the next step does. Where the run stops, its status says.
+-- that these steps begin, each under its name, and exactly those finished that they finish. A text that they read was
+-- read
+-- whole, within its limit; one that the next step reads was read up to its limit at most; of any other nothing was
+-- read.
+-- Nothing was written to a slot but where they write to it, or the next step does. Where the run stops, its status
+-- says.
 -- The texts are answered where each is within its limit, no fault was counted, and memory is there.
 pub record Steps (plan : List Step) (before now : DeskState) (status : Status) : Type 0 where
   pub done : List Step

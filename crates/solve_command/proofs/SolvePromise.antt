@@ -125,7 +125,8 @@ solved settings text before now found fault bytes reported told made no_document
           no_document document_is
           made.is_spelled;
       good = made.good;
-      reported = written_alone (before.written Report) (now.written Report) reported (λ b. b ≡ report_text_of made.document)
+      reported = written_alone (before.written Report) (now.written Report) reported (λ b. b ≡ report_text_of
+          made.document)
           no_report report_is
           made.is_reported;
     }

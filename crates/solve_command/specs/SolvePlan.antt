@@ -1,4 +1,5 @@
--- The plan of the command `solve`: it begins the text, the document and the report, reads the text, and writes the document
+-- The plan of the command `solve`: it begins the text, the document and the report, reads the text, and writes the
+-- document
 -- and the report.
 use Rattle.std.specs.Prelude.{◌++◌, ℕ, List, Some}
 use Rattle.frag_io.specs.declared.desk.Slot.TheVariants.{CertOut}

@@ -18,9 +18,11 @@ use Rattle.check_command.proofs.checking.check_steps.Goals as goal
 
 -- steps that are done behind others, with one more
 read_behind : (done some later : List Step) (one : Step) (before now : DeskState) (status : Status)
-    → Ends (((done ++ some) ++ one ∷ []) ++ later) before now status → Ends (done ++ (some ++ (one ∷ later))) before now status
+    → Ends (((done ++ some) ++ one ∷ []) ++ later) before now status → Ends (done ++ (some ++ (one ∷ later))) before
+    now status
 read_behind done some later one before now status ends =
-    ends_behind done some (one ∷ later) before now status (ends_behind (done ++ some) (one ∷ []) later before now status ends)
+    ends_behind done some (one ∷ later) before now status (ends_behind (done ++ some) (one ∷ []) later before now
+    status ends)
 
 pub returns-in_err-text-clause-ends : goal.returns-in_err-text-clause-ends
 returns-in_err-text-clause-ends g c = λ done before did.
@@ -34,7 +36,8 @@ returns-in_err-bytes-clause-ends g c = λ done before did.
     (unread done before (g.D.Desk.state c.args.desk.now) CertIn did (c.requires.only CertIn (λ is. cc))) refl in
     let p = err_from_is_err_and c.from_residual-in_err-bytes.result c.from_residual-in_err-bytes.ensures.1 in
     rw (p.1, p.2) (ends_behind done text (read CertIn ∷ report_steps) before (g.D.Desk.state c.read_text.new.desk) _
-    (c.in_err-bytes.ensures.ends (done ++ text) report_steps before (c.in_ok-text.ensures.done done before did) unread_document))
+    (c.in_err-bytes.ensures.ends (done ++ text) report_steps before (c.in_ok-text.ensures.done done before did)
+    unread_document))
 
 pub returns-in_err-fault-clause-ends : goal.returns-in_err-fault-clause-ends
 returns-in_err-fault-clause-ends g c = λ done before did.
@@ -51,8 +54,10 @@ returns-in-Refused-clause-ends g c = λ done before did.
     let text : List Step = text_steps c.args.name.now (Some (begin CertIn c.args.document.now)) in
     let unread_document = unread_behind done text CertIn
     (unread done before (g.D.Desk.state c.args.desk.now) CertIn did (c.requires.only CertIn (λ is. cc))) refl in
-    read_behind done text report_steps (read CertIn) before (g.D.Desk.state c.read_text.new.desk) (DocumentRefused c.in-Refused.fault)
-    (refused_ends (done ++ text) report_steps before (g.D.Desk.state c.read_text.new.desk) CertIn (DocumentRefused c.in-Refused.fault) refl refl
+    read_behind done text report_steps (read CertIn) before (g.D.Desk.state c.read_text.new.desk) (DocumentRefused
+    c.in-Refused.fault)
+    (refused_ends (done ++ text) report_steps before (g.D.Desk.state c.read_text.new.desk) CertIn (DocumentRefused
+    c.in-Refused.fault) refl refl
     (c.read_text.ensures.begun CertIn ∙ c.in_ok-text.ensures.begun.documents CertIn tt)
     (c.in_ok-bytes.ensures.done (done ++ text) before (c.in_ok-text.ensures.done done before did) unread_document))
 
@@ -61,8 +66,10 @@ returns-in-Rejected-clause-ends g c = λ done before did.
     let text : List Step = text_steps c.args.name.now (Some (begin CertIn c.args.document.now)) in
     let unread_document = unread_behind done text CertIn
     (unread done before (g.D.Desk.state c.args.desk.now) CertIn did (c.requires.only CertIn (λ is. cc))) refl in
-    read_behind done text report_steps (read CertIn) before (g.D.Desk.state c.read_text.new.desk) (DocumentRejected c.in-Rejected.place)
-    (refused_ends (done ++ text) report_steps before (g.D.Desk.state c.read_text.new.desk) CertIn (DocumentRejected c.in-Rejected.place) refl refl
+    read_behind done text report_steps (read CertIn) before (g.D.Desk.state c.read_text.new.desk) (DocumentRejected
+    c.in-Rejected.place)
+    (refused_ends (done ++ text) report_steps before (g.D.Desk.state c.read_text.new.desk) CertIn (DocumentRejected
+    c.in-Rejected.place) refl refl
     (c.read_text.ensures.begun CertIn ∙ c.in_ok-text.ensures.begun.documents CertIn tt)
     (c.in_ok-bytes.ensures.done (done ++ text) before (c.in_ok-text.ensures.done done before did) unread_document))
 

@@ -12,7 +12,8 @@ returns-in-Err-clause-promise g c =
     stopped_text (λ profile text. list_meaning (run_settings_of profile (names_of c.args.names.now).adduct) text)
     (names_of c.args.names.now).profile (names_of c.args.names.now).spectra (g.D.Desk.state c.args.desk.now)
     (g.D.Desk.state c.take_profile.new.desk) c.in-Err.status
-    (c.take_profile.ensures.unwritten (λ slot written. g.met.D.Desk.unbegun_is_empty c.args.desk.now slot written (c.requires slot)))
+    (c.take_profile.ensures.unwritten (λ slot written. g.met.D.Desk.unbegun_is_empty c.args.desk.now slot written
+    (c.requires slot)))
     c.in-Err.ensures.own c.in-Err.ensures.accepted
 
 pub returns-in-Ok-list_under-clause-promise : goal.returns-in-Ok-list_under-clause-promise
@@ -36,18 +37,22 @@ returns-in-Ok-list_under-clause-ends g c =
 
 pub returns-clause-ends : goal.returns-clause-ends
 returns-clause-ends g c =
-    c.in-Err-list_under.ensures.ends (profile_steps (names_of c.args.names.now).profile) (g.D.Desk.state c.args.desk.now)
+    c.in-Err-list_under.ensures.ends (profile_steps (names_of c.args.names.now).profile) (g.D.Desk.state
+    c.args.desk.now)
     c.in-Ok.ensures.done
 
 pub returns-in-Ok-list_under-clause-profile : goal.returns-in-Ok-list_under-clause-profile
 returns-in-Ok-list_under-clause-profile g c =
-    taken_promise (names_of c.args.names.now).profile (g.D.Desk.state c.args.desk.now) (g.D.Desk.state c.list_under.new.desk) _ _
+    taken_promise (names_of c.args.names.now).profile (g.D.Desk.state c.args.desk.now) (g.D.Desk.state
+    c.list_under.new.desk) _ _
     c.in-Ok.ensures.taken c.in-Ok-list_under.ensures.own
 
 pub returns-clause-profile : goal.returns-clause-profile
 returns-clause-profile g c =
-    taken_promise (names_of c.args.names.now).profile (g.D.Desk.state c.args.desk.now) (g.D.Desk.state c.list_under.new.desk) _ _
+    taken_promise (names_of c.args.names.now).profile (g.D.Desk.state c.args.desk.now) (g.D.Desk.state
+    c.list_under.new.desk) _ _
     c.in-Ok.ensures.taken c.in-Err-list_under.ensures.own
 
 pub returns-in-Err-clause-ends : goal.returns-in-Err-clause-ends
-returns-in-Err-clause-ends g c = c.in-Err.ensures.ends (text_steps (names_of c.args.names.now).spectra None ++ report_steps)
+returns-in-Err-clause-ends g c = c.in-Err.ensures.ends (text_steps (names_of c.args.names.now).spectra None ++
+    report_steps)

@@ -5,5 +5,17 @@ use Rattle.list_command.proofs.section.push_section.Goals as goal
 
 pub returns : goal.returns
 returns g c =
-    let section : Outlined = record { line = c.spectrum.inside.line; title = c.spectrum.inside.title; outline = outline_of c.in_ok-outline.outline } in
-    (section, record { line = ap (λ s. s.line) c.spectrum.view_is; title = ap (λ s. s.title) c.spectrum.view_is; outline = c.in_ok-outline.ensures.outline }, search (rules, append_assoc))
+    let section : Outlined = record {
+      line = c.spectrum.inside.line;
+      title = c.spectrum.inside.title;
+      outline =
+          outline_of c.in_ok-outline.outline;
+    } in (
+      section,
+      record {
+        line = ap (λ s. s.line) c.spectrum.view_is;
+        title = ap (λ s. s.title) c.spectrum.view_is;
+        outline = c.in_ok-outline.ensures.outline;
+      },
+      search (rules, append_assoc),
+    )

@@ -13,28 +13,35 @@ pub returns-in_err-begin_slot-clause-ends : goal.returns-in_err-begin_slot-claus
 returns-in_err-begin_slot-clause-ends g c = λ done later before did.
     let middle : List Step = document_steps (option_map begin_of c.args.document) in
     let p = err_from_is_err_and c.from_residual.result c.from_residual.ensures.1 in
-    rw (p.1, p.2) (c.in_err-begin_slot.ensures.ends done ((middle ++ begin Report [] ∷ read Spectra ∷ []) ++ later) before did)
+    rw (p.1, p.2) (c.in_err-begin_slot.ensures.ends done ((middle ++ begin Report [] ∷ read Spectra ∷ []) ++ later)
+    before did)
 
 pub returns-in_err-begin_document-clause-ends : goal.returns-in_err-begin_document-clause-ends
 returns-in_err-begin_document-clause-ends g c = λ done later before did.
     let first : Step = begin Spectra c.args.name.now in
     let last : List Step = begin Report [] ∷ read Spectra ∷ [] in
     let middle : List Step = document_steps (option_map begin_of c.args.document) in
-    let p = err_from_is_err_and c.from_residual-in_err-begin_document.result c.from_residual-in_err-begin_document.ensures.1 in
-    rw (p.1, p.2) (ends_as ((done ++ first ∷ []) ++ (middle ++ (last ++ later))) (done ++ (first ∷ ((middle ++ last) ++ later))) before
+    let p = err_from_is_err_and c.from_residual-in_err-begin_document.result
+    c.from_residual-in_err-begin_document.ensures.1 in
+    rw (p.1, p.2) (ends_as ((done ++ first ∷ []) ++ (middle ++ (last ++ later))) (done ++ (first ∷ ((middle ++ last)
+    ++ later))) before
     (g.D.Desk.state c.begin_document.new.desk) _ (behind_first done middle last later first)
-    (c.in_err-begin_document.ensures.ends (done ++ first ∷ []) (last ++ later) before (c.in_ok-begin_slot.ensures.done done before did)))
+    (c.in_err-begin_document.ensures.ends (done ++ first ∷ []) (last ++ later) before (c.in_ok-begin_slot.ensures.done
+    done before did)))
 
 pub returns-in_err-begin_slot-2-clause-ends : goal.returns-in_err-begin_slot-2-clause-ends
 returns-in_err-begin_slot-2-clause-ends g c = λ done later before did.
     let first : Step = begin Spectra c.args.name.now in
     let last : List Step = begin Report [] ∷ read Spectra ∷ [] in
     let middle : List Step = document_steps (option_map begin_of c.args.document) in
-    let p = err_from_is_err_and c.from_residual-in_err-begin_slot-2.result c.from_residual-in_err-begin_slot-2.ensures.1 in
-    rw (p.1, p.2) (ends_as (((done ++ first ∷ []) ++ middle) ++ (last ++ later)) (done ++ (first ∷ ((middle ++ last) ++ later))) before
+    let p = err_from_is_err_and c.from_residual-in_err-begin_slot-2.result
+    c.from_residual-in_err-begin_slot-2.ensures.1 in
+    rw (p.1, p.2) (ends_as (((done ++ first ∷ []) ++ middle) ++ (last ++ later)) (done ++ (first ∷ ((middle ++ last)
+    ++ later))) before
     (g.D.Desk.state c.begin_slot-2.new.desk) _ (behind_middle done middle last later first)
     (c.in_err-begin_slot-2.ensures.ends ((done ++ first ∷ []) ++ middle) (read Spectra ∷ later) before
-    (c.in_ok-begin_document.ensures.done (done ++ first ∷ []) before (c.in_ok-begin_slot.ensures.done done before did))))
+    (c.in_ok-begin_document.ensures.done (done ++ first ∷ []) before (c.in_ok-begin_slot.ensures.done done before
+    did))))
 
 pub returns-clause-done : goal.returns-clause-done
 returns-clause-done g c = λ done before did.

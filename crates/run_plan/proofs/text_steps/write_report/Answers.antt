@@ -14,7 +14,8 @@ returns-clause-part g c =
     on_err c.finish_slot.result _ (
       length c.args.report.now,
       c.finish_slot.ensures.unchanged ∙ c.in_ok-write_slot.ensures.all
-          ∙ ap (λ (bytes : List ℕ). appended ((g.D.Desk.state c.args.desk.now).written Report) bytes) (sym (take-length c.args.report.now)),
+          ∙ ap (λ (bytes : List ℕ). appended ((g.D.Desk.state c.args.desk.now).written Report) bytes) (sym
+          (take-length c.args.report.now)),
     )
 
 pub returns-in_err-write_slot-clause-ends : goal.returns-in_err-write_slot-clause-ends
@@ -25,7 +26,8 @@ returns-in_err-write_slot-clause-ends g c = λ done before did.
 pub returns-clause-ended : goal.returns-clause-ended
 returns-clause-ended g c = λ done before did.
     on_ok_then c.finish_slot.result _ _ (both _ _ _ c.finish_slot.ensures.ok
-    (c.finish_slot.ensures.done (done ++ write Report ∷ []) before (c.in_ok-write_slot.ensures.done done before did))) (λ ok status is.
+    (c.finish_slot.ensures.done (done ++ write Report ∷ []) before (c.in_ok-write_slot.ensures.done done before did)))
+    (λ ok status is.
     outputs_ended (done ++ report_steps) before (g.D.Desk.state c.finish_slot.new.desk) status is
     (subst (λ (steps : List Step). HasDone steps before (g.D.Desk.state c.finish_slot.new.desk))
     (append_assoc done (write Report ∷ []) (finish Report ∷ [])) ok.1)
@@ -34,6 +36,7 @@ returns-clause-ended g c = λ done before did.
 
 pub returns-clause-ends : goal.returns-clause-ends
 returns-clause-ends g c = λ done before did.
-    subst (λ (steps : List Step). IfErr c.finish_slot.result (Ends steps before (g.D.Desk.state c.finish_slot.new.desk)))
+    subst (λ (steps : List Step). IfErr c.finish_slot.result (Ends steps before (g.D.Desk.state
+    c.finish_slot.new.desk)))
     (append_assoc done (write Report ∷ []) (finish Report ∷ []))
     (c.finish_slot.ensures.ends (done ++ write Report ∷ []) [] before (c.in_ok-write_slot.ensures.done done before did))

@@ -67,7 +67,8 @@ returns-clause-ended g c = λ done before did.
 pub returns-in_err-write_slot-clause-ends : goal.returns-in_err-write_slot-clause-ends
 returns-in_err-write_slot-clause-ends g c = λ done before did.
     let p = err_from_is_err_and c.from_residual.result c.from_residual.ensures.1 in
-    rw (p.1, p.2) (c.in_err-write_slot.ensures.ends done (write Report ∷ finish CertOut ∷ finish Report ∷ []) before did)
+    rw (p.1, p.2) (c.in_err-write_slot.ensures.ends done (write Report ∷ finish CertOut ∷ finish Report ∷ []) before
+    did)
 
 pub returns-in_err-write_slot-2-clause-ends : goal.returns-in_err-write_slot-2-clause-ends
 returns-in_err-write_slot-2-clause-ends g c = λ done before did.
@@ -86,15 +87,18 @@ returns-in_err-finish_slot-clause-ends g c = λ done before did.
     (done ++ output_steps) before (g.D.Desk.state c.finish_slot.new.desk) _
     (behind_two done (finish CertOut ∷ finish Report ∷ []) (write CertOut) (write Report))
     (c.in_err-finish_slot.ensures.ends ((done ++ write CertOut ∷ []) ++ write Report ∷ []) (finish Report ∷ []) before
-    (c.in_ok-write_slot-2.ensures.done (done ++ write CertOut ∷ []) before (c.in_ok-write_slot.ensures.done done before did))))
+    (c.in_ok-write_slot-2.ensures.done (done ++ write CertOut ∷ []) before (c.in_ok-write_slot.ensures.done done
+    before did))))
 
 pub returns-clause-ends : goal.returns-clause-ends
 returns-clause-ends g c = λ done before did.
-    subst (λ (steps : List Step). IfErr c.finish_slot-2.result (Ends steps before (g.D.Desk.state c.finish_slot-2.new.desk)))
+    subst (λ (steps : List Step). IfErr c.finish_slot-2.result (Ends steps before (g.D.Desk.state
+    c.finish_slot-2.new.desk)))
     (behind_three done (finish Report ∷ []) (write CertOut) (write Report) (finish CertOut))
     (c.finish_slot-2.ensures.ends (((done ++ write CertOut ∷ []) ++ write Report ∷ []) ++ finish CertOut ∷ []) [] before
     (c.in_ok-finish_slot.ensures.done ((done ++ write CertOut ∷ []) ++ write Report ∷ []) before
-    (c.in_ok-write_slot-2.ensures.done (done ++ write CertOut ∷ []) before (c.in_ok-write_slot.ensures.done done before did))))
+    (c.in_ok-write_slot-2.ensures.done (done ++ write CertOut ∷ []) before (c.in_ok-write_slot.ensures.done done
+    before did))))
 
 pub returns-clause-document : goal.returns-clause-document
 returns-clause-document g c = on_ok c.finish_slot-2.result _
