@@ -69,6 +69,14 @@ impl ColourGraph {
         }
     }
 
+    /// Every graph is one. A law for proofs: it does nothing.
+    #[inline]
+    pub fn is_graph(&self)
+        ensures { IsGraph self.now }
+    {
+        let _colours = &self.colours;
+    }
+
     /// How many vertices there are, the root among them.
     pub fn vertex_count(&self) -> u32
         ensures { result ≡ length self.now.colours }

@@ -45,9 +45,9 @@ impl Formula {
         Formula { counts }
     }
 
-    /// Tells what every formula is, for proofs alone: it does nothing.
+    /// Every formula is one. A law for proofs: it does nothing.
     #[inline]
-    pub(crate) fn is_formula(&self)
+    pub fn is_formula(&self)
         ensures { IsFormula self.now }
     {
         let _counts = &self.counts;

@@ -29,11 +29,18 @@ impl Formulas {
     pub fn of(items: Vec<Formula>) -> Formulas
         ensures { result ≡ items.items }
     {
-        // tells what each item is, for the invariant; nothing is done
         for formula in &items {
             formula.is_formula();
         }
         Formulas { items }
+    }
+
+    /// Each of them is a formula. A law for proofs: it does nothing.
+    #[inline]
+    pub fn are_formulas(&self)
+        ensures { All IsFormula self.now }
+    {
+        let _items = &self.items;
     }
 
     /// The formulas.

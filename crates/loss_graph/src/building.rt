@@ -71,19 +71,11 @@ fn root_formula(lists: &[FormulaList], candidate: &Formula, choice: &Choice) -> 
     ensures formula { IsFormula result }
 {
     let precursor = &lists[0];
-    let _listed = precursor.formulas.items();
+    precursor.formulas.are_formulas();
     let adduct = &choice.adduct;
-    is_formula(candidate);
-    is_formula(&adduct.extra);
+    candidate.is_formula();
+    adduct.extra.is_formula();
     candidate.plus(&adduct.extra)
-}
-
-/// Tells what every formula is, for proofs alone: it does nothing.
-#[inline]
-fn is_formula(formula: &Formula)
-    ensures { IsFormula formula.now }
-{
-    let _count = formula.count(0);
 }
 
 /// The graph over the vertices of a candidate, the first of which is the root.

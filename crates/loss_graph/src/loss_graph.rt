@@ -57,7 +57,7 @@ impl Model for LossGraph {
 }
 
 impl LossGraph {
-    /// Tells what every such value is, for proofs alone: it does nothing.
+    /// Every such value is one. A law for proofs: it does nothing.
     #[inline]
     pub fn is_loss_graph(&self)
         ensures { IsLossGraph self.now }

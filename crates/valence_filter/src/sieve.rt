@@ -44,8 +44,7 @@ impl Sieve {
     fn answer(&self, formula: &Formula) -> bool
         ensures { result ≡ passes self.now.rules.items formula.now }
     {
-        // Of formulas alone is the test known, and this call shows the proof that these counts are one.
-        let _hydrogen = formula.count(0);
+        formula.is_formula();
         (self.test)(formula)
     }
 }

@@ -15,7 +15,7 @@ plus-requires c place =
     ∙ ap (λ list. list.formulas)
     (get_or_default c.args.lists.now 0 c.index-lists-0.result (record { mz = 0; intensity = 0; formulas = [] })
     c.requires.some) in
-    let listed = rw list_is at c.items-listed.ensures.formulas in
+    let listed = rw list_is at c.are_formulas.ensures in
     let root =
     All-contains IsFormula (list_at c.args.lists.now 0).formulas (root_of c.args.choice.now c.args.candidate.now)
     listed c.requires.holds_root in
