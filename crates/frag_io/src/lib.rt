@@ -6,6 +6,7 @@ mod count;
 mod desk;
 mod failing;
 mod faults;
+mod file_identity;
 mod memory;
 mod real;
 mod stage;

@@ -11,8 +11,10 @@ ghost use Rattle.frag_io.specs.inside.Faults.{faults_of};
 ghost use Rattle.frag_io.specs.inside.Outlets.{is_open, is_ended, is_begun_in, is_finished_in};
 
 use crate::faults::Faults;
+use crate::file_identity::FileIdentity;
 use crate::{Desk, DeskFault, Slot};
 use std::alloc::Global;
+use std::fs::{OpenFile, OpenOptions};
 use std::io::{ErrorKind, Read, Write};
 use std::rt::Files;
 use std::{fs, io};
@@ -56,6 +58,25 @@ impl<F: Drop> Slots<F> {
     }
 }
 
+impl<F: OpenFile> Slots<F> {
+    /// The identities of the regular files that are read.
+    fn files_read(&self) -> io::Result<[Option<FileIdentity>; 3]> {
+        Ok([
+            identity_of(&self.spectra)?,
+            identity_of(&self.profile)?,
+            identity_of(&self.cert_in)?,
+        ])
+    }
+}
+
+/// The identity of the file at a slot, where it was begun and is a regular file.
+fn identity_of<F: OpenFile>(file: &Option<F>) -> io::Result<Option<FileIdentity>> {
+    match file {
+        Some(file) => Ok(FileIdentity::of(&file.metadata()?)),
+        None => Ok(None),
+    }
+}
+
 /// A file that is there on every Linux system and has no bytes.
 const NO_BYTES: &str = "/dev/null";
 
@@ -73,11 +94,18 @@ fn take_descriptors<R: Files>(rt: &R) -> io::Result<Held<R::File>> {
     ))
 }
 
-/// Creates a file, or empties it, apart from the descriptors of the standard streams.
-fn create_apart<R: Files>(rt: &R, name: &str) -> io::Result<(Held<R::File>, R::File)> {
-    let held = take_descriptors(rt)?;
-    let file = fs::create(rt, name)?;
-    Ok((held, file))
+/// Opens a file to write it from its beginning, creating it where there is none. One of those that are read is refused as
+/// it is, under whatever name, so a file is emptied only once it is known to be none of them. What is no regular file
+/// has nothing to be emptied of.
+fn open_emptied<R: Files>(rt: &R, name: &str, slots: &Slots<R::File>) -> io::Result<R::File> {
+    let file = OpenOptions::new().write(true).create(true).open(rt, name)?;
+    if let Some(identity) = FileIdentity::of(&file.metadata()?) {
+        if identity.is_among(&slots.files_read()?) {
+            return Err(io::Error::from(ErrorKind::InvalidInput));
+        }
+        file.set_len(0)?;
+    }
+    Ok(file)
 }
 
 /// Reads an open file.
@@ -119,8 +147,8 @@ fn end<F: Write + Drop>(outlet: &mut Outlet<F>) -> io::Result<()>
 }
 
 /// A desk over real files and the standard output. It tells no bytes. Read slots are opened only to read; the
-/// document's file is created, or emptied, as it begins, and never takes the descriptor of a standard stream; the
-/// report goes to the standard output.
+/// document's file is created, or emptied, as it begins, but refused where it is one of the files that are read, and never
+/// takes the descriptor of a standard stream; the report goes to the standard output.
 #[derive(Drop)]
 pub struct RealDesk<'a, R: Files + Print> {
     rt: &'a R,
@@ -177,7 +205,8 @@ impl<'a, R: Files + Print> RealDesk<'a, R> {
         match slot {
             Slot::Report => self.slots.report = Outlet::Open(()),
             Slot::CertOut => {
-                let (held, file) = create_apart(self.rt, name)?;
+                let held = take_descriptors(self.rt)?;
+                let file = open_emptied(self.rt, name, &self.slots)?;
                 self.held = Some(held);
                 self.slots.cert_out = Outlet::Open(file);
             }
