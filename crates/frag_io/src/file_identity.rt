@@ -1,5 +1,5 @@
-//! Whether two open files are one, under whatever names: a link, a path by `./` or `..` and a descriptor all lead to the
-//! same file.
+//! Whether two open files are one, under whatever names: a link, a path by `./` or `..` and a descriptor all lead to
+//! the same file.
 ghost use Rattle.std.specs.Prelude.{◌↔◌, Some, IsSome, IsTrue, Contains};
 ghost use Rattle.std.specs.Fs.{file_type, IsFile};
 
@@ -14,7 +14,8 @@ pub(crate) struct FileIdentity {
 }
 
 impl FileIdentity {
-    /// The identity of a regular file. A device, a pipe or a terminal has none, since it keeps no bytes that could be lost.
+    /// The identity of a regular file. A device, a pipe or a terminal has none, since it keeps no bytes that could be
+    /// lost.
     pub(crate) fn of(metadata: &Metadata) -> Option<FileIdentity>
         ensures { IsSome result ↔ IsFile (file_type metadata.now) }
     {

@@ -94,9 +94,9 @@ fn take_descriptors<R: Files>(rt: &R) -> io::Result<Held<R::File>> {
     ))
 }
 
-/// Opens a file to write it from its beginning, creating it where there is none. One of those that are read is refused as
-/// it is, under whatever name, so a file is emptied only once it is known to be none of them. What is no regular file
-/// has nothing to be emptied of.
+/// Opens a file to write it from its beginning, creating it where there is none. One of those that are read is refused
+/// as it is, under whatever name, so a file is emptied only once it is known to be none of them. What is no regular
+/// file has nothing to be emptied of.
 fn open_emptied<R: Files>(rt: &R, name: &str, slots: &Slots<R::File>) -> io::Result<R::File> {
     let file = OpenOptions::new().write(true).create(true).open(rt, name)?;
     if let Some(identity) = FileIdentity::of(&file.metadata()?) {
@@ -147,8 +147,8 @@ fn end<F: Write + Drop>(outlet: &mut Outlet<F>) -> io::Result<()>
 }
 
 /// A desk over real files and the standard output. It tells no bytes. Read slots are opened only to read; the
-/// document's file is created, or emptied, as it begins, but refused where it is one of the files that are read, and never
-/// takes the descriptor of a standard stream; the report goes to the standard output.
+/// document's file is created, or emptied, as it begins, but refused where it is one of the files that are read, and
+/// never takes the descriptor of a standard stream; the report goes to the standard output.
 #[derive(Drop)]
 pub struct RealDesk<'a, R: Files + Print> {
     rt: &'a R,
