@@ -1,0 +1,4 @@
+pub mod Sums
+pub mod Reaching
+pub mod Filling
+pub mod Examples
