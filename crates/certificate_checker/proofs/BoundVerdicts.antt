@@ -1,7 +1,7 @@
 -- What is said of a bound, by what is said of its sides; and a bound that fails somewhere does not hold.
 use Rattle.std.proofs.Common.{◌≡◌, ◌⊎◌, inl, inr, ◌+◌, ◌-◌, ◌<◌, ◌↔◌, ◌∙◌, ℕ, ℤ, pos, ◌≤ℤ◌, ◌<ℤ◌, Bool, List, ◌++◌}
-use Rattle.std.proofs.Common.{drop, length, ap, refl, subst, sym, arith, Result, IfOk}
-use Rattle.std.proofs.Math.Seq.{drop-append_seam}
+use Rattle.std.proofs.Common.{drop, length, take, ap, refl, subst, sym, arith, Result, IfOk}
+use Rattle.std.proofs.Math.Seq.{drop-append_seam, take-append_seam}
 use Rattle.std.proofs.lemmas.Int.{ints}
 use Rattle.std.proofs.lemmas.Result.{IfOk-weaker}
 use Rattle.std.specs.List.{All}
@@ -160,3 +160,9 @@ exactly_from graph set allowed bound passed upper result set_is upper_is =
     (λ verdict. (verdict ≡ Holds) ↔ BoundHolds graph allowed bound upper)
     (λ verdict said. exactly_at graph allowed bound upper 0 verdict
     (said-at graph set allowed bound passed upper 0 verdict verdict set_is upper_is refl said))
+
+-- what was taken out before a first side, when the edges behind are given back
+pub first-taken : (old behind taken left : List ℕ) (before : ℕ) → before ≡ length old → taken ≡ old ++ behind
+    → left ≡ take before taken → left ≡ old
+first-taken old behind taken left before long is left_is =
+    left_is ∙ ap (λ n. take n taken) long ∙ ap (take (length old)) is ∙ take-append_seam old behind

@@ -5,8 +5,9 @@ use Rattle.std.proofs.lemmas.Int.{ints}
 use Rattle.colour_graph.specs.Graph.{Graph, colour_count, colour_of, edge_at, head_colour}
 use Rattle.tree_certificate.specs.ColourSet.{IsPartOf, place_of, without}
 use Rattle.tree_certificate.specs.TableHolds.{IsHighEnough, number_at, number_of}
-use Rattle.certificate_checker.specs.inside.Enough.{AreGainsBefore, AreNumbersBelow, IsEnough, IsEnoughBefore, IsNumber}
-use Rattle.certificate_checker.specs.inside.Enough.{number_in}
+use Rattle.tree_certificate.specs.Enough.{IsEnough}
+use Rattle.certificate_checker.specs.inside.Enough.{AreGainsBefore, AreNumbersBelow, IsEnoughBefore, IsNumber}
+use Rattle.tree_certificate.specs.Number.{number_in}
 use Rattle.tree_certificate.proofs.SetParts.{length-part, length-without, place-lt}
 
 -- A vertex's numbers for the sets of the last colours, with the gains of the edges into the colour before them.

@@ -4,7 +4,9 @@ use Rattle.std.proofs.Common.{mul_comm}
 use Rattle.std.proofs.Math.Nat.{mul-lt-mul_of_pos_left}
 use Rattle.std.proofs.lemmas.Bool.{cases_eq}
 use Rattle.tree_certificate.specs.ColourSet.{place_of}
-use Rattle.certificate_checker.specs.inside.Enough.{IsEnough, IsLeastEnough, number_in}
+use Rattle.tree_certificate.specs.Enough.{IsEnough}
+use Rattle.tree_certificate.specs.Number.{number_in}
+use Rattle.certificate_checker.specs.inside.Enough.{IsLeastEnough}
 
 -- one set more
 pub enough-next : (row own gains : List ℤ) (step set : ℕ) (needed : ℤ)

@@ -17,7 +17,7 @@ use Rattle.tree_certificate.specs.BoundValue.{PriceValue}
 use Rattle.tree_certificate.specs.PriceHolds.{edges_between, gain_by, gain_of}
 use Rattle.tree_certificate.proofs.Caps.{IsIn-edges_into}
 use Rattle.tree_certificate.proofs.Members.{All-at, IsIn-filter, IsIn-map}
-use Rattle.certificate_checker.specs.inside.Enough.{number_in}
+use Rattle.tree_certificate.specs.Number.{number_in}
 use Rattle.certificate_checker.specs.inside.Gained.{AreClear, AreGained, AreGainedBefore, AreGainsOf, AreNeededBy}
 use Rattle.certificate_checker.specs.inside.Gained.{AreNeeds, AreOfTails, AreSums, IsEdgeGain, IsGainBound, IsGained}
 use Rattle.certificate_checker.specs.inside.Gained.{IsNeed}

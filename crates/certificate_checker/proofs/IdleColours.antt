@@ -5,7 +5,9 @@ use Rattle.std.proofs.lemmas.Bool.{cases_eq}
 use Rattle.std.proofs.lemmas.Int.{ints}
 use Rattle.tree_certificate.specs.ColourSet.{IsPartOf, place_of, without}
 use Rattle.tree_certificate.proofs.SetParts.{place-without}
-use Rattle.certificate_checker.specs.inside.Enough.{AreTelling, IsEnough, RaisesNothing, number_in}
+use Rattle.tree_certificate.specs.Enough.{IsEnough}
+use Rattle.tree_certificate.specs.Number.{number_in}
+use Rattle.certificate_checker.specs.inside.Enough.{AreTelling, RaisesNothing}
 use Rattle.certificate_checker.proofs.MarkedColours.{AreMarked, cut, cut-none, cut-part, has, in_place, kept}
 use Rattle.certificate_checker.proofs.MarkedColours.{marked-place, place-cut}
 

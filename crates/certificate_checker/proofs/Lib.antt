@@ -1,4 +1,5 @@
-pub mod PartWalk
+pub mod Fits
+mod LeastEnough
 mod HasColour
 mod MarkedColours
 mod UsefulColours

@@ -11,7 +11,9 @@ use Rattle.tree_certificate.specs.TableHolds.{IsHighAt, IsHighEnough, number_at,
 use Rattle.tree_certificate.specs.TableHolds.{row_length}
 use Rattle.tree_certificate.proofs.Tables.{place_in-lt}
 use Rattle.certificate_checker.specs.declared.low.Low.{Low}
-use Rattle.certificate_checker.specs.inside.Enough.{AreGainsBefore, AreNumbersBelow, IsEnough, number_in}
+use Rattle.tree_certificate.specs.Enough.{IsEnough}
+use Rattle.tree_certificate.specs.Number.{number_in}
+use Rattle.certificate_checker.specs.inside.Enough.{AreGainsBefore, AreNumbersBelow}
 use Rattle.certificate_checker.specs.inside.Low.{IsEarlier, IsFoundOfSizes, IsFoundOfVertex, IsFoundSet, IsLowOfSizes}
 use Rattle.certificate_checker.specs.inside.Low.{IsLowOfVertex, IsSetHigh}
 use Rattle.certificate_checker.proofs.EnoughIsHigh.{AreGathered, enough_is_high}

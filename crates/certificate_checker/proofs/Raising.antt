@@ -9,7 +9,9 @@ use Rattle.colour_graph.specs.EdgeSet.{AreInto}
 use Rattle.colour_graph.specs.Graph.{Graph, IsScore, edge_at, head_colour}
 use Rattle.tree_certificate.specs.TableHolds.{number_at, row_at}
 use Rattle.certificate_checker.specs.inside.Enough.{AreGainsBefore, AreGainsBelow, AreNoGains, IsEnoughBefore, IsGain}
-use Rattle.certificate_checker.specs.inside.Enough.{IsNumber, IsRaised, number_in}
+use Rattle.tree_certificate.specs.Enough.{IsRaised}
+use Rattle.tree_certificate.specs.Number.{number_in}
+use Rattle.certificate_checker.specs.inside.Enough.{IsNumber}
 
 number_in-same : (numbers : List ℤ) (place : ℕ) (number : ℤ) → place < length numbers
     → number_in (slice_set numbers place number) place ≡ number

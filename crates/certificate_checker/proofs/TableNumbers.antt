@@ -9,9 +9,9 @@ use Rattle.std.proofs.lemmas.List.Sums.{AllPass-from_list_all}
 use Rattle.std.specs.List.{list_all}
 use Rattle.colour_graph.specs.Graph.{Graph, colour_count, colour_of}
 use Rattle.tree_certificate.specs.ColourSet.{place_of}
-use Rattle.tree_certificate.specs.Number.{AreNear, AreNumbers, greatest_number, is_near}
+use Rattle.tree_certificate.specs.Number.{AreNear, AreNumbers, greatest_number, is_near, number_in}
 use Rattle.tree_certificate.specs.TableHolds.{FitsGraph, place_in, row_at, row_length}
-use Rattle.certificate_checker.specs.inside.Enough.{AreNumbersBelow, IsNumber, number_in}
+use Rattle.certificate_checker.specs.inside.Enough.{AreNumbersBelow, IsNumber}
 
 near-number : (number : ℤ) → is_near greatest_number number ≡ true → IsNumber number
 near-number (pos n) is =

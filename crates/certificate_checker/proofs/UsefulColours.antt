@@ -5,11 +5,12 @@ use Rattle.std.proofs.lemmas.Bool.{cases_eq}
 use Rattle.std.proofs.lemmas.Int.{ints}
 use Rattle.tree_certificate.specs.ColourSet.{IsPartOf, place_of, without}
 use Rattle.tree_certificate.proofs.SetParts.{place-without}
-use Rattle.certificate_checker.specs.inside.Enough.{AddsNothing, AddsNothingFrom, AddsNothingTo, AreUseful, IsEnough}
-use Rattle.certificate_checker.specs.inside.Enough.{IsEnoughOf, number_in}
+use Rattle.tree_certificate.specs.Enough.{IsEnough, IsEnoughOf}
+use Rattle.certificate_checker.specs.inside.Enough.{AddsNothing, AddsNothingFrom, AddsNothingTo, AreUseful}
+use Rattle.tree_certificate.specs.Number.{number_in}
 use Rattle.certificate_checker.proofs.MarkedColours.{AreMarked, IsPartOf-kept, cut, cut-none, cut-part, has, has-left}
 use Rattle.certificate_checker.proofs.MarkedColours.{in_place, kept, marked-place, part-cut, place-cut}
-use Rattle.certificate_checker.proofs.PartWalk.{IsPartOf-part}
+use Rattle.tree_certificate.proofs.PartWalk.{IsPartOf-part}
 
 -- A part without a colour that adds nothing gives no less.
 no_less : (own gains : List ℤ) (colour : ℕ) (set part : List Bool) → AddsNothing own gains (length own) (2 ^ colour)

@@ -56,7 +56,7 @@ IsSplitPlace graph allowed colour part node (SplitEdges at) =
     (at ≡ node) × (1 ≤ colour) × (colour ≤ colour_count graph) × ¬ (IsSplit graph allowed colour part)
 IsSplitPlace graph allowed colour part node place = ⊥
 
--- The first place where a bound whose first node has a number fails on a set: its prices do; or its split does, or this
+-- The first place where a bound whose first node has a number fails on a set: its leaf does; or its split does, or this
 -- is one and its first side fails, or that side holds and the second fails.
 abbrev pub IsBoundPlace : Graph → List Bool → BoundValue → ℤ → ℕ → Place → Type 0
 IsBoundPlace graph allowed (priced cert) upper node place = IsLeafPlace graph allowed cert upper node place

@@ -2,6 +2,7 @@
 ghost use Rattle.std.specs.Prelude.{◌≡◌, ◌≤◌, ◌<◌, ◌+◌, ◌^◌, ◌↔◌, IfOk, Ok, length};
 ghost use Rattle.colour_graph.specs.EdgeSet.{IsSetOf, all_edges};
 ghost use Rattle.tree_certificate.specs.BoundHolds.{BoundHolds, depth_of, greatest_depth, nodes_of, splits_of};
+ghost use Rattle.tree_certificate.specs.BoundValue.{priced};
 ghost use Rattle.tree_certificate.specs.BoundView.{bound_value};
 ghost use Rattle.certificate_checker.specs.BoundPlaces.{IsBoundVerdict, IsVerdictFrom};
 ghost use Rattle.certificate_checker.specs.declared.verdict.Verdict.TheVariants.{Holds};
@@ -12,7 +13,7 @@ use crate::sides::{give_back, keep_only, put_part, take_part, wrong_split};
 use crate::verdict::Verdict;
 use colour_graph::{Allowed, ColourGraph, EdgeId};
 use std::alloc::{AllocError, Global};
-use tree_certificate::Bound;
+use tree_certificate::{Bound, PriceCert};
 
 /// Whether prices and splits hold for an upper bound of a graph of at most `GREATEST_GRAPH` vertices, or the first
 /// place where they fail.
@@ -60,10 +61,7 @@ fn check_node(
     let node = *next;
     *next += 1;
     match bound {
-        Bound::Priced(cert) => Ok(match wrong_prices(graph, allowed, cert, upper, node) {
-            None => Verdict::Holds,
-            Some(place) => Verdict::Fails(place),
-        }),
+        Bound::Priced(cert) => Ok(check_leaf(graph, allowed, cert, upper, node)),
         Bound::Split(colour, part, first, second) => {
             let part = part.as_slice();
             if let Some(place) = wrong_split(graph, allowed, *colour, part, node) {
@@ -81,5 +79,23 @@ fn check_node(
             put_part(allowed, part);
             Ok(side)
         }
+    }
+}
+
+/// Whether a leaf holds on a set of edges for an upper bound, or the first place where it fails.
+fn check_leaf(
+    graph: &ColourGraph,
+    allowed: &Allowed,
+    cert: &PriceCert,
+    upper: i64,
+    node: u32,
+) -> Verdict
+    requires vertices { length graph.now.colours ≤ greatest_graph }
+    requires set { IsSetOf graph.now allowed.now }
+    ensures { IsVerdictFrom graph.now allowed.now (priced cert.now) upper node result }
+{
+    match wrong_prices(graph, allowed, cert, upper, node) {
+        None => Verdict::Holds,
+        Some(place) => Verdict::Fails(place),
     }
 }

@@ -32,7 +32,7 @@ pub fn check_cert(
     ensures bounded { result ≡ Ok Holds → IsBounded graph.now (all_edges graph.now) upper }
 {
     what_holds_bounds_every_tree();
-    let _edges = graph.edge_count();
+    graph.is_graph();
     match cert {
         Cert::Table(table) => check_table(alloc, graph, table.rows(), upper),
         Cert::Bounds(bound) => check_bound(alloc, graph, bound, upper),

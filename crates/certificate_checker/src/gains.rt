@@ -1,10 +1,11 @@
 //! What the edges from a vertex into a colour gain.
 ghost use Rattle.std.specs.Prelude.{◌≡◌, ◌≤◌, ◌<◌, ◌*◌, ◌-◌, ◌^◌, ◌+ℤ◌, ℕ, false, length, map};
 ghost use Rattle.colour_graph.specs.Graph.{IsScore, colour_count};
-ghost use Rattle.tree_certificate.specs.Number.{AreNumbers};
+ghost use Rattle.tree_certificate.specs.Number.{AreNumbers, number_in};
 ghost use Rattle.tree_certificate.specs.TableHolds.{FitsGraph, greatest_colours, row_at};
 ghost use Rattle.certificate_checker.specs.inside.Enough.{AreGainsBefore, AreGainsBelow, AreNoGains, AreNumbersBelow};
-ghost use Rattle.certificate_checker.specs.inside.Enough.{IsGain, IsNumber, IsRaised, number_in};
+ghost use Rattle.tree_certificate.specs.Enough.{IsRaised};
+ghost use Rattle.certificate_checker.specs.inside.Enough.{IsGain, IsNumber};
 
 use colour_graph::{Colour, ColourGraph, VertexId};
 
@@ -54,14 +55,14 @@ pub(crate) fn gather_gains(
 {
     let (first, past) = graph.edges_into(colour);
     let mut any = false;
-    for place in first..past {
-        let edge = graph.edge_at(place);
-        if edge.tail == vertex {
-            let numbers = numbers_of(rows, usize::from(edge.head));
+    for edge in first..past {
+        let here = graph.edge_at(edge);
+        if here.tail == vertex {
+            let numbers = numbers_of(rows, usize::from(here.head));
             if any {
-                raise_gains(gains, edge.weight, numbers);
+                raise_gains(gains, here.weight, numbers);
             } else {
-                set_gains(gains, edge.weight, numbers);
+                set_gains(gains, here.weight, numbers);
             }
             any = true;
         }

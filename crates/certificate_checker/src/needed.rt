@@ -4,7 +4,8 @@ ghost use Rattle.std.specs.Int.{int_max};
 ghost use Rattle.colour_graph.specs.EdgeSet.{IsSetOf};
 ghost use Rattle.colour_graph.specs.Graph.{IsScore, colour_count, greatest_graph};
 ghost use Rattle.tree_certificate.specs.PriceHolds.{FitsPrices};
-ghost use Rattle.certificate_checker.specs.inside.Enough.{IsNumber, number_in};
+ghost use Rattle.tree_certificate.specs.Number.{number_in};
+ghost use Rattle.certificate_checker.specs.inside.Enough.{IsNumber};
 ghost use Rattle.certificate_checker.specs.inside.Gained.{AreClear, AreGained, AreGainsOf, AreNeededBy, AreNeeds};
 ghost use Rattle.certificate_checker.specs.inside.Gained.{AreOfTails, AreSums, IsEdgeGain, IsGained, IsNeed};
 
@@ -29,7 +30,7 @@ pub(crate) fn gather_needed(
     ensures long { length needed.new ≡ length needed.old }
     ensures needed { AreNeededBy graph.now allowed.now cert.now (colour_count graph.now) needed.new }
 {
-    let _count = graph.edge_count();
+    graph.is_graph();
     for before in 0..graph.colour_count() {
         let colour = before as Colour + 1;
         gather_best(graph, allowed, cert, colour, gains);
@@ -59,11 +60,11 @@ fn gather_best(
     let price = cert.prices()[usize::from(colour) - 1];
     let potentials = cert.potentials();
     let (first, past) = graph.edges_into(colour);
-    for place in first..past {
-        if allowed.has(place) {
-            let edge = graph.edge_at(place);
-            let gain = gain(edge.weight, price, potentials[usize::from(edge.head)]);
-            raise(gains, usize::from(edge.tail), gain);
+    for edge in first..past {
+        if allowed.has(edge) {
+            let here = graph.edge_at(edge);
+            let gain = gain(here.weight, price, potentials[usize::from(here.head)]);
+            raise(gains, usize::from(here.tail), gain);
         }
     }
 }
@@ -107,8 +108,8 @@ fn add_gains(graph: &ColourGraph, colour: Colour, needed: &mut [i64], gains: &mu
     ensures clear { AreClear gains.new }
 {
     let (first, past) = graph.edges_into(colour);
-    for place in first..past {
-        move_gain(needed, gains, usize::from(graph.edge_at(place).tail));
+    for edge in first..past {
+        move_gain(needed, gains, usize::from(graph.edge_at(edge).tail));
     }
 }
 

@@ -1,7 +1,8 @@
 //! What a number of a table is to be at least, by a walk over the parts of a set of colours that a head may need.
 ghost use Rattle.std.specs.Prelude.{◌<◌, length};
 ghost use Rattle.certificate_checker.specs.inside.Enough.{AreGainsBelow, AreNumbersBelow, AreUseful};
-ghost use Rattle.certificate_checker.specs.inside.Enough.{IsGain, IsLeastEnough, IsNumber, IsRaised};
+ghost use Rattle.tree_certificate.specs.Enough.{IsRaised};
+ghost use Rattle.certificate_checker.specs.inside.Enough.{IsGain, IsLeastEnough, IsNumber};
 
 /// The least number that is enough for a set, by a walk over all its parts that a head may need, the greatest first.
 pub(crate) fn least_enough(own: &[i64], gains: &[i64], useful: usize, set: usize) -> i64

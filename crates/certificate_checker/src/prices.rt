@@ -24,11 +24,11 @@ pub fn check_prices(graph: &ColourGraph, allowed: &Allowed, cert: &PriceCert, up
     ensures bounded { IsTrue result → IsBounded graph.now allowed.now upper }
 {
     what_prices_hold_bounds_every_tree();
-    let _count = graph.edge_count();
+    graph.is_graph();
     wrong_prices(graph, allowed, cert, upper, 0).is_none()
 }
 
-/// The first place where the prices and potentials of a node fail on a set of edges.
+/// The first place where a leaf fails on a set of edges, and where its total is above an upper bound.
 #[inline(never)]
 pub(crate) fn wrong_prices(
     graph: &ColourGraph,
@@ -75,7 +75,7 @@ fn first_negative(graph: &ColourGraph, cert: &PriceCert) -> Option<Colour>
     ensures { MatchOption result (AreNotNegative cert.now.prices)
         (λ colour. IsNegativePlace graph.now cert.now colour) }
 {
-    let _count = graph.edge_count();
+    graph.is_graph();
     let prices = cert.prices();
     for place in 0..prices.len() {
         if prices[place] < 0 {
@@ -85,7 +85,7 @@ fn first_negative(graph: &ColourGraph, cert: &PriceCert) -> Option<Colour>
     None
 }
 
-/// The place in a node of the first vertex whose potential is lower than it needs to be.
+/// The place in a leaf of the first vertex whose potential is lower than it needs to be.
 fn low_potential(
     graph: &ColourGraph,
     allowed: &Allowed,
@@ -120,7 +120,7 @@ pub fn total_of(graph: &ColourGraph, cert: &PriceCert) -> i64
     requires prices { AreNotNegative cert.now.prices }
     ensures { result ≡ price_total graph.now cert.now }
 {
-    let _count = graph.edge_count();
+    graph.is_graph();
     added(
         graph.root_score(),
         cert.potentials()[0],

@@ -23,7 +23,7 @@ use Rattle.tree_document.specs.declared.entry.Outcome.{Outcome}
 use Rattle.tree_document.specs.declared.entry.Outcome.TheVariants as outcome
 use Rattle.right_document.specs.Ending.{ending_of}
 use Rattle.right_document.specs.OneEach.{OneEach}
-use Rattle.right_document.specs.Outline.{OutlineValue, listed, skipped}
+use Rattle.tree_document.specs.Outline.{OutlineValue, listed, skipped}
 use Rattle.right_document.specs.Outlined.{IsOutlined, Outlined}
 use Rattle.right_document.specs.RightDocument.{DocumentIsRight}
 use Rattle.right_document.specs.RightSection.{BodyIsRight, ErrorIsRight, IsRightEntry, SectionIsRight, SizeIsRight}

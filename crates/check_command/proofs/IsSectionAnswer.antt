@@ -5,7 +5,7 @@ use Rattle.mgf_reader.specs.Spectrum.{SpectrumValue}
 use Rattle.tree_document.specs.declared.document.Body.{Body}
 use Rattle.tree_document.specs.declared.document.Body.TheVariants as body
 use Rattle.tree_document.specs.declared.document.Section.{Section}
-use Rattle.right_document.specs.Outline.{OutlineValue, listed, skipped}
+use Rattle.tree_document.specs.Outline.{OutlineValue, listed, skipped}
 use Rattle.right_document.specs.Outlined.{IsOutlined, Outlined}
 use Rattle.right_document.specs.SolveSettings.{SolveSettingsValue}
 use Rattle.check_command.specs.CheckPlaces.{IsBodyPlace, IsSectionPlace}

@@ -10,7 +10,7 @@ use Rattle.tree_document.specs.declared.document.Body.TheVariants as body
 use Rattle.tree_document.specs.declared.document.Document.{Document}
 use Rattle.tree_document.specs.declared.document.Section.{Section}
 use Rattle.right_document.specs.OneEach.{OneEach}
-use Rattle.right_document.specs.Outline.{OutlineValue, listed, skipped}
+use Rattle.tree_document.specs.Outline.{OutlineValue, listed, skipped}
 use Rattle.right_document.specs.RightSection.{SectionIsRight}
 use Rattle.right_document.specs.SolveSettings.{SolveSettingsValue}
 use Rattle.check_command.specs.CheckPlaces.{IsBodyPlace, IsDocumentPlace, IsExtra, IsInSection, IsMissing}

@@ -22,7 +22,7 @@ use Rattle.tree_document.specs.declared.entry.Outcome.TheVariants as outcome
 use Rattle.right_document.specs.Candidates.{candidates_of, graph_of}
 use Rattle.right_document.specs.Ending.{ending_of}
 use Rattle.right_document.specs.OneEach.{OneEach}
-use Rattle.right_document.specs.Outline.{OutlineValue, listed, skipped}
+use Rattle.tree_document.specs.Outline.{OutlineValue, listed, skipped}
 use Rattle.right_document.specs.Outlined.{IsOutlined, Outlined}
 use Rattle.right_document.specs.RightSection.{ErrorIsRight, SectionIsRight, SizeIsRight, TreeIsRight}
 use Rattle.right_document.specs.SolveSettings.{SolveSettingsValue}

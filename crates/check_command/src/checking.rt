@@ -1,8 +1,9 @@
 //! The command `check`: whether a document is right for a text, without any search.
-ghost use Rattle.std.specs.Prelude.{◌≡◌, ◌≢◌, ◌≤◌, ◌++◌, ℕ, List, Some, false, true, length, IfOk, IfSome};
+ghost use Rattle.std.specs.Prelude.{◌≡◌, ◌≢◌, ◌≤◌, ◌<◌, ◌+◌, ◌++◌, ℕ, List, Some, false, true, length, IfOk, IfSome};
 ghost use Rattle.frag_io.specs.declared.desk.Slot.{Slot};
 ghost use Rattle.frag_io.specs.declared.desk.Slot.TheVariants.{Spectra, Report, CertOut};
 ghost use Rattle.frag_io.specs.DeskState.{DeskState};
+ghost use Rattle.loss_graph.specs.Lists.{greatest_lists};
 ghost use Rattle.run_plan.specs.Causes.{IsUnwritten};
 ghost use Rattle.run_plan.specs.Class.{class_of, IsOfProfile};
 ghost use Rattle.run_plan.specs.Limits.{greatest_text_of};
@@ -19,15 +20,13 @@ ghost use Rattle.run_plan.specs.Running.{Ends, HasDone, IsUnfinished, status_of}
 ghost use Rattle.right_document.specs.SettingsOf.{solve_settings_value_of};
 
 use crate::document::{Checked, check_text};
-use element_table::Formula;
 use frag_io::{Desk, Slot};
 use mgf_reader::MgfFault;
 use order_words::DocumentNames;
 use profile::Profile;
-use right_document::{SolveSettings, candidate_rules_of, fragment_rules_of, solve_settings};
+use right_document::{SolveSettings, candidate_rules_of, sieve_of, solve_settings};
 use run_plan::{DocumentSlot, Status, read_spectra, read_text, take_profile, write_report};
 use std::alloc::{AllocError, Global};
-use valence_filter::{Sieve, all_hold};
 
 /// Checks the document that a name gives against the text of another name, under the profile that is named, for ions of
 /// the adduct.
@@ -43,10 +42,7 @@ pub fn check<D: Desk>(alloc: Global, names: &DocumentNames, desk: &mut D) -> Sta
         Ok(profile) => profile,
         Err(status) => return status,
     };
-    match check_under(alloc, names, &profile, desk) {
-        Ok(()) => Status::Done,
-        Err(status) => status,
-    }
+    Status::of(check_under(alloc, names, &profile, desk))
 }
 
 /// Checks under a profile.
@@ -69,18 +65,9 @@ fn check_under<D: Desk>(
     ensures own { IsOfProfile (class_of (status_of result)) → ⊥ }
     ensures an_order { status_of result ≢ Status.Words }
 {
-    let rules = fragment_rules_of(alloc, profile, &names.adduct)?;
-    let kept = Vec::from_slice(alloc, &rules)?;
+    let sieve = sieve_of!(alloc, profile, &names.adduct);
     let candidate_rules = candidate_rules_of(alloc, profile)?;
-    let Ok(test) = Box::new(alloc, move |formula: &Formula| all_hold(&kept, formula)) else {
-        return Err(Status::Memory);
-    };
-    let settings = solve_settings(
-        profile,
-        names.adduct,
-        Sieve::new(rules, test),
-        candidate_rules,
-    );
+    let settings = solve_settings(profile, names.adduct, sieve, candidate_rules);
     check_steps(alloc, names.spectra, names.document, &settings, desk)
 }
 
@@ -92,7 +79,7 @@ fn check_steps<D: Desk>(
     settings: &SolveSettings,
     desk: &mut D,
 ) -> Result<(), Status>
-    requires peaks { settings.now.listing.choice.peaks ≤ 40 }
+    requires peaks { settings.now.listing.choice.peaks + 1 < greatest_lists }
     requires only { OnlyProfile (D.state desk.old) }
     requires unfinished { IsUnfinished (D.state desk.old) }
     requires unwritten { IsUnwritten (D.state desk.old) }

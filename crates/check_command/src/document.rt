@@ -14,11 +14,12 @@ ghost use Rattle.right_document.specs.SolveSettings.{SolveSettingsValue};
 ghost use Rattle.right_document.specs.SettingsOf.{solve_settings_value_of};
 
 use crate::section::section_place;
+use document_reader::read_document;
 use mgf_reader::{MgfFault, Reader};
 use right_document::{SolveSettings, ending_of};
 use run_plan::{RejectPart, RejectPlace, read_all};
 use std::alloc::{AllocError, Global};
-use tree_document::{CertFault, Document, DocumentError, Section, read_document};
+use tree_document::{CertFault, Document, DocumentError, Section};
 
 /// What a check finds of the bytes of a document: that they are refused, or where the document differs first from the
 /// right ones of the text, or that it is right, how many sections it has, and the line that refused the text, where

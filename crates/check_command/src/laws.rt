@@ -11,9 +11,9 @@ ghost use Rattle.check_command.specs.CheckPlaces.{IsDocumentPlace};
 ghost use Rattle.check_command.specs.CheckOutcome.{CheckOutcome, IsOutcome, accepted};
 ghost use Rattle.run_plan.specs.declared.reject.RejectPart.{RejectPart};
 
+use document_reader::bytes_read_one_way;
 use mgf_reader::a_text_is_read_one_way;
 use right_document::a_spectrum_has_one_outline;
-use tree_document::bytes_read_one_way;
 
 /// A document that differs somewhere from the right ones of a text, in its sections or in its ending, is not right for
 /// the text. So a check tells such a place only of documents that are not right.

@@ -3,15 +3,16 @@ ghost use Rattle.std.specs.Prelude.{◌≡◌, ◌≢◌, ◌<◌, ◌+◌, ◌�
 ghost use Rattle.loss_graph.specs.Lists.{greatest_lists};
 ghost use Rattle.tree_document.specs.Document.{IsSmallCert, OfBody};
 ghost use Rattle.check_command.specs.inside.CheckAnswers.{IsBodyAnswer, IsSectionAnswer};
-ghost use Rattle.right_document.specs.Outlines.{HasOwnLists, outline_of};
+ghost use Rattle.tree_document.specs.Outline.{outline_of};
+ghost use Rattle.right_document.specs.Outlines.{HasOwnLists};
 ghost use Rattle.right_document.specs.SettingsOf.{solve_settings_value_of};
 
 use crate::entries::solved_place;
 use mgf_reader::Spectrum;
-use right_document::{Outline, SolveSettings, read_outline};
+use right_document::{SolveSettings, read_outline};
 use run_plan::RejectPart;
 use std::alloc::{AllocError, Global};
-use tree_document::{Body, Section};
+use tree_document::{Body, Outline, Section};
 
 /// The first part of a section that differs from the right ones of a spectrum, if one does.
 pub fn section_place(

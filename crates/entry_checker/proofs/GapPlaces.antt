@@ -8,7 +8,7 @@ use Rattle.colour_graph.specs.Graph.{Graph}
 use Rattle.tree_certificate.specs.BoundValue.{BoundValue}
 use Rattle.tree_certificate.specs.PriceHolds.{price_total}
 use Rattle.tree_certificate.specs.Spent.{CanGoOn, IsGreatestTotal, IsTight, IsUseful, Leaf, Spent}
-use Rattle.entry_checker.specs.GapPlaces.{IsGapPlace, all_forks, all_leaves}
+use Rattle.entry_checker.specs.GapPlaces.{IsGapPlace, all_splits, all_leaves}
 use Rattle.tree_entry.specs.declared.place.EntryPlace.{EntryPlace}
 use Rattle.tree_entry.specs.declared.place.EntryPlace.TheVariants.{Splits, Loose, Slack, Wasted, Decided}
 
@@ -39,7 +39,7 @@ no_gap_place graph bound score upper budget (Loose greatest) is spent =
 no_gap_place graph bound score upper budget (Slack node) is spent =
     is.1.wrong (all_at (IsTight graph) (all_leaves graph bound) is.1.place is.1.node spent.tight is.1.is_node)
 no_gap_place graph bound score upper budget (Wasted node) is spent =
-    is.1.wrong (all_at (IsUseful graph upper) (all_forks graph bound) is.1.place is.1.node spent.useful is.1.is_node)
+    is.1.wrong (all_at (IsUseful graph upper) (all_splits graph bound) is.1.place is.1.node spent.useful is.1.is_node)
 no_gap_place graph bound score upper budget (Decided node) is spent =
     is.1.wrong (all_at (CanGoOn graph score) (all_leaves graph bound) is.1.place is.1.node spent.go_on is.1.is_node)
 no_gap_place graph bound score upper budget other is spent = is

@@ -23,6 +23,8 @@ use Rattle.entry_checker.specs.declared.verdict.EntryVerdict.{EntryVerdict}
 use Rattle.entry_checker.specs.declared.verdict.EntryVerdict.TheVariants.{Right, Wrong}
 use Rattle.certificate_checker.proofs.BoundVerdicts.{no_bound_place}
 use Rattle.entry_checker.proofs.GapPlaces.{no_gap_place}
+use Rattle.entry_checker.specs.GapPlaces.{IsGapPlace}
+use Rattle.tree_certificate.specs.BoundValue.{BoundValue}
 use Rattle.certificate_checker.proofs.Verdicts.{no_place}
 
 differ : Optimal ≡ Gap → ⊥
@@ -129,3 +131,32 @@ exactly_entry_from built tree budget result is =
     IfOk-weaker result (λ verdict. IsEntryVerdict built tree budget verdict)
     (λ verdict. (verdict ≡ Right) ↔ EntryIsRight built tree budget)
     (λ verdict said. exactly_entry built tree budget verdict said) is
+
+late_place : (graph : Graph) (tree : TreeValue) (budget : ℕ) (place : EntryPlace) (cert : CertValue)
+    (bound : BoundValue) → cert ≡ a_bound bound → IsGapPlace graph bound tree.score tree.upper budget place
+    → IsLatePlace graph tree budget cert place
+late_place graph tree budget place cert bound same is =
+    subst (λ its. IsLatePlace graph tree budget its place) (sym same) is
+
+gap_place : (built : LossGraphValue) (tree : TreeValue) (budget : ℕ) (bound : BoundValue) (place : EntryPlace)
+    → CertIsRight built tree → tree.mark ≡ Gap → greatest_colours < colour_count built.graph → tree.cert ≡ a_bound bound
+    → IsGapPlace built.graph bound tree.score tree.upper budget place → IsEntryPlace built tree budget place
+gap_place built tree budget bound (Rows number) right gap many cert is = absurd is
+gap_place built tree budget bound NotColourful right gap many cert is = absurd is
+gap_place built tree budget bound (NotMaximal edge) right gap many cert is = absurd is
+gap_place built tree budget bound (Score score) right gap many cert is = absurd is
+gap_place built tree budget bound (Upper cap) right gap many cert is = absurd is
+gap_place built tree budget bound Mark right gap many cert is = absurd is
+gap_place built tree budget bound (Cert place) right gap many cert is = absurd is
+gap_place built tree budget bound (FewColours colours) right gap many cert is = absurd is
+gap_place built tree budget bound place right gap many cert is =
+    (right, gap, many, late_place built.graph tree budget place tree.cert bound cert is)
+
+-- where the budget of a gap of a graph of many colours was not spent, the tree is wrong there
+pub gap_place_as : (built : LossGraphValue) (tree : TreeValue) (budget : ℕ) (graph : Graph) (bound : BoundValue)
+    (score upper : ℤ) (place : EntryPlace)
+    → CertIsRight built tree → tree.mark ≡ Gap → greatest_colours < colour_count built.graph → tree.cert ≡ a_bound bound
+    → graph ≡ built.graph → score ≡ tree.score → upper ≡ tree.upper → IsGapPlace graph bound score upper budget place
+    → IsEntryPlace built tree budget place
+gap_place_as built tree budget graph bound score upper place right gap many cert same equal also is =
+    gap_place built tree budget bound place right gap many cert (rw (← same, ← equal, ← also) is)

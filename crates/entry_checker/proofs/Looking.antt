@@ -10,7 +10,7 @@ use Rattle.tree_certificate.proofs.BoundValues.{value_of_split}
 use Rattle.tree_certificate.specs.BoundHolds.{BoundHolds, IsSplit, nodes_of}
 use Rattle.tree_certificate.specs.BoundValue.{BoundValue, PriceValue}
 use Rattle.tree_certificate.specs.BoundView.{bound_value}
-use Rattle.tree_certificate.specs.Spent.{Fork, Leaf, forks_of, leaves_of}
+use Rattle.tree_certificate.specs.Spent.{SplitNode, Leaf, split_nodes_of, leaves_of}
 use Rattle.tree_certificate.specs.declared.bound.Bound.{Bound}
 use Rattle.tree_certificate.specs.declared.bound.Bound.TheVariants.{Priced, Split}
 use Rattle.certificate_checker.proofs.SplitSides.{into-in_range, only-undone}
@@ -99,38 +99,38 @@ second_side-long graph allowed side part set_is is =
 -- what is found with the one leaf of prices
 pub gathered_leaf : (graph : Graph) (score upper : ℤ) (allowed : List Bool) (bound : Bound) (cert : PriceValue)
     (node : ℕ)
-    (leaves : List Leaf) (forks : List Fork) (found : Found) → bound ≡ Priced cert
-    → Gathered graph score upper (leaves ++ (record { node = node; allowed = allowed; cert = cert }) ∷ []) forks found
+    (leaves : List Leaf) (splits : List SplitNode) (found : Found) → bound ≡ Priced cert
+    → Gathered graph score upper (leaves ++ (record { node = node; allowed = allowed; cert = cert }) ∷ []) splits found
     → Gathered graph score upper (leaves ++ leaves_of graph allowed (bound_value bound) node)
-    (forks ++ forks_of graph allowed (bound_value bound) node) found
-gathered_leaf graph score upper allowed bound cert node leaves forks found is gathered =
-    rw (is, append-nil forks) gathered
+    (splits ++ split_nodes_of graph allowed (bound_value bound) node) found
+gathered_leaf graph score upper allowed bound cert node leaves splits found is gathered =
+    rw (is, append-nil splits) gathered
 
 -- what is found with both sides of a split
 pub gathered_sides : (graph : Graph) (score upper : ℤ) (allowed one other : List Bool) (bound : Bound) (colour : ℕ)
     (part : List ℕ)
-    (first second : Bound) (node next behind : ℕ) (leaves : List Leaf) (forks : List Fork) (found : Found)
+    (first second : Bound) (node next behind : ℕ) (leaves : List Leaf) (splits : List SplitNode) (found : Found)
     → bound ≡ Split colour part first second
     → one ≡ only graph allowed colour part → other ≡ leaving allowed part
     → next ≡ node + 1 → behind ≡ next + nodes_of (bound_value first)
     → Gathered graph score upper
     ((leaves ++ leaves_of graph one (bound_value first) next) ++ leaves_of graph other (bound_value second) behind)
-    (((forks ++ (record { node = node; allowed = allowed }) ∷ []) ++ forks_of graph one (bound_value first) next)
-    ++ forks_of graph other (bound_value second) behind) found
+    (((splits ++ (record { node = node; allowed = allowed }) ∷ []) ++ split_nodes_of graph one (bound_value first) next)
+    ++ split_nodes_of graph other (bound_value second) behind) found
     → Gathered graph score upper (leaves ++ leaves_of graph allowed (bound_value bound) node)
-    (forks ++ forks_of graph allowed (bound_value bound) node) found
-gathered_sides graph score upper allowed one other bound colour part first second node next behind leaves forks found is
-    one_is other_is
-    next_is behind_is gathered =
+    (splits ++ split_nodes_of graph allowed (bound_value bound) node) found
+gathered_sides graph score upper allowed one other bound colour part first second node next behind leaves splits found
+    is one_is other_is next_is behind_is gathered =
     rw (ap bound_value is ∙ value_of_split colour part first second)
-    (subst (λ (ls : List Leaf). Gathered graph score upper ls (forks ++ ((fork ∷ first_forks) ++ second_forks)) found)
+    (subst (λ (ls : List Leaf).
+    Gathered graph score upper ls (splits ++ ((split_node ∷ first_splits) ++ second_splits)) found)
     (append_assoc leaves first_leaves second_leaves)
-    (subst (λ (fs : List Fork). Gathered graph score upper ((leaves ++ first_leaves) ++ second_leaves) fs found)
-    (append_assoc (forks ++ fork ∷ []) first_forks second_forks
-    ∙ append_assoc forks (fork ∷ []) (first_forks ++ second_forks)) at_sides))
+    (subst (λ (fs : List SplitNode). Gathered graph score upper ((leaves ++ first_leaves) ++ second_leaves) fs found)
+    (append_assoc (splits ++ split_node ∷ []) first_splits second_splits
+    ∙ append_assoc splits (split_node ∷ []) (first_splits ++ second_splits)) at_sides))
   where
-    fork : Fork
-    fork = record { node = node; allowed = allowed }
+    split_node : SplitNode
+    split_node = record { node = node; allowed = allowed }
 
     first_leaves : List Leaf
     first_leaves = leaves_of graph (only graph allowed colour part) (bound_value first) (node + 1)
@@ -139,12 +139,13 @@ gathered_sides graph score upper allowed one other bound colour part first secon
     second_leaves = leaves_of graph (leaving allowed part) (bound_value second)
         (node + 1 + nodes_of (bound_value first))
 
-    first_forks : List Fork
-    first_forks = forks_of graph (only graph allowed colour part) (bound_value first) (node + 1)
+    first_splits : List SplitNode
+    first_splits = split_nodes_of graph (only graph allowed colour part) (bound_value first) (node + 1)
 
-    second_forks : List Fork
-    second_forks = forks_of graph (leaving allowed part) (bound_value second) (node + 1 + nodes_of (bound_value first))
+    second_splits : List SplitNode
+    second_splits = split_nodes_of graph (leaving allowed part) (bound_value second)
+        (node + 1 + nodes_of (bound_value first))
 
     at_sides : Gathered graph score upper ((leaves ++ first_leaves) ++ second_leaves)
-        (((forks ++ fork ∷ []) ++ first_forks) ++ second_forks) found
+        (((splits ++ split_node ∷ []) ++ first_splits) ++ second_splits) found
     at_sides = rw (one_is, other_is, behind_is, next_is) at gathered

@@ -7,7 +7,8 @@ use Rattle.colour_graph.specs.EdgeSet.{all_edges}
 use Rattle.colour_graph.specs.Graph.{Graph}
 use Rattle.tree_certificate.specs.BoundHolds.{splits_of}
 use Rattle.tree_certificate.specs.BoundValue.{BoundValue}
-use Rattle.tree_certificate.specs.Spent.{CanGoOn, Fork, IsGreatestTotal, IsTight, IsUseful, Leaf, forks_of, leaves_of}
+use Rattle.tree_certificate.specs.Spent.{CanGoOn, IsGreatestTotal, IsTight, IsUseful, Leaf, SplitNode, leaves_of}
+use Rattle.tree_certificate.specs.Spent.{split_nodes_of}
 use Rattle.tree_entry.specs.declared.place.EntryPlace.{EntryPlace}
 use Rattle.tree_entry.specs.declared.place.EntryPlace.TheVariants.{Splits, Loose, Slack, Wasted, Decided}
 
@@ -15,8 +16,8 @@ use Rattle.tree_entry.specs.declared.place.EntryPlace.TheVariants.{Splits, Loose
 abbrev pub all_leaves : Graph → BoundValue → List Leaf
 all_leaves graph bound = leaves_of graph (all_edges graph) bound 0
 
-abbrev pub all_forks : Graph → BoundValue → List Fork
-all_forks graph bound = forks_of graph (all_edges graph) bound 0
+abbrev pub all_splits : Graph → BoundValue → List SplitNode
+all_splits graph bound = split_nodes_of graph (all_edges graph) bound 0
 
 -- the number of the first of some nodes of which something does not hold
 pub record IsFirstNode {X : Type 0} (number_of : X → ℕ) (Is : X → Type 0) (nodes : List X) (number : ℕ) : Type 0 where
@@ -39,7 +40,7 @@ pub record LeavesAreTight (graph : Graph) (bound : BoundValue) (upper : ℤ) (bu
 
 pub record SplitsAreUseful (graph : Graph) (bound : BoundValue) (upper : ℤ) (budget : ℕ) : Type 0 where
   pub before : LeavesAreTight graph bound upper budget
-  pub useful : All (IsUseful graph upper) (all_forks graph bound)
+  pub useful : All (IsUseful graph upper) (all_splits graph bound)
 
 -- the first place where the budget was not spent
 abbrev pub IsGapPlace : Graph → BoundValue → ℤ → ℤ → ℕ → EntryPlace → Type 0
@@ -51,7 +52,7 @@ IsGapPlace graph bound score upper budget (Slack node) =
     × IsFirstNode (λ leaf. leaf.node) (IsTight graph) (all_leaves graph bound) node
 IsGapPlace graph bound score upper budget (Wasted node) =
     LeavesAreTight graph bound upper budget
-    × IsFirstNode (λ fork. fork.node) (IsUseful graph upper) (all_forks graph bound) node
+    × IsFirstNode (λ split_node. split_node.node) (IsUseful graph upper) (all_splits graph bound) node
 IsGapPlace graph bound score upper budget (Decided node) =
     SplitsAreUseful graph bound upper budget
     × IsFirstNode (λ leaf. leaf.node) (CanGoOn graph score) (all_leaves graph bound) node

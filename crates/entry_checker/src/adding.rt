@@ -17,10 +17,10 @@ pub(crate) fn first_added(graph: &ColourGraph, edges: &[EdgeId]) -> Option<EdgeI
     let mut reached = [false; GREATEST_GRAPH as usize];
     let mut taken = [false; GREATEST_GRAPH as usize];
     mark_heads(graph, edges, &mut reached, &mut taken);
-    for place in 0..graph.edge_count() {
-        let edge = graph.edge_at(place);
-        if adds(edge, graph.colour_of(edge.head), &reached, &taken) {
-            return Some(place);
+    for edge in 0..graph.edge_count() {
+        let here = graph.edge_at(edge);
+        if adds(here, graph.colour_of(here.head), &reached, &taken) {
+            return Some(edge);
         }
     }
     None
@@ -36,7 +36,7 @@ fn mark_heads(graph: &ColourGraph, edges: &[EdgeId], reached: &mut [bool], taken
     ensures marks { AreMarks graph.now edges.now reached.new taken.new }
     ensures length { (length reached.new ≡ length reached.old) × (length taken.new ≡ length taken.old) }
 {
-    let _count = graph.edge_count();
+    graph.is_graph();
     reached[0] = true;
     for edge in edges {
         let head = graph.edge_at(*edge).head;

@@ -23,7 +23,7 @@ pub(crate) fn cap_in(graph: &ColourGraph, allowed: &Allowed) -> i64
     requires set { IsSetOf graph.now allowed.now }
     ensures { result ≡ cap_of graph.now allowed.now }
 {
-    let _count = graph.edge_count();
+    graph.is_graph();
     let mut cap = i64::from(graph.root_score());
     for before in 0..graph.colour_count() {
         cap += i64::from(greatest_into(graph, allowed, before as Colour + 1));

@@ -2,15 +2,18 @@
 ghost use Rattle.std.specs.Prelude.{◌≡◌, ◌≤◌, ◌<◌, ◌^◌, ◌↔◌, ℕ, Ok, IfOk, IsTrue, MatchOption, length};
 ghost use Rattle.colour_graph.specs.Bounded.{IsBounded};
 ghost use Rattle.colour_graph.specs.EdgeSet.{all_edges};
-ghost use Rattle.colour_graph.specs.Graph.{greatest_graph};
+ghost use Rattle.colour_graph.specs.Graph.{colour_count, greatest_graph};
 ghost use Rattle.tree_entry.specs.EntryIsRight.{EntryIsRight, MarkFits};
 ghost use Rattle.tree_certificate.specs.CertHolds.{cert_depth, cert_splits};
 ghost use Rattle.tree_document.specs.declared.entry.Mark.TheVariants as mark;
 ghost use Rattle.entry_checker.specs.EntryPlaces.{CertIsRight, IsEntryPlace, IsEntryVerdict, MarkIsFitting};
-ghost use Rattle.entry_checker.specs.EntryPlaces.{NoneIsAdded};
+ghost use Rattle.entry_checker.specs.EntryPlaces.{NoneIsAdded, ScoreIsRight, UpperIsCapped};
 ghost use Rattle.tree_entry.specs.Rows.{AreRows, edges_of};
 ghost use Rattle.entry_checker.specs.declared.verdict.EntryVerdict.TheVariants.{Right};
-ghost use Rattle.tree_certificate.specs.BoundHolds.{greatest_depth};
+ghost use Rattle.tree_certificate.specs.BoundHolds.{depth_of, greatest_depth, splits_of};
+ghost use Rattle.tree_certificate.specs.BoundView.{bound_value};
+ghost use Rattle.tree_certificate.specs.TableHolds.{greatest_colours};
+ghost use Rattle.tree_certificate.specs.Value.{a_bound};
 
 use crate::adding::first_added;
 use crate::cap::cap;
@@ -21,7 +24,7 @@ use certificate_checker::{Verdict, check_cert};
 use colour_graph::EdgeId;
 use loss_graph::LossGraph;
 use std::alloc::{AllocError, Global};
-use tree_certificate::{Cert, GREATEST_COLOURS, what_holds_bounds_every_tree};
+use tree_certificate::{Bound, Cert, GREATEST_COLOURS, what_holds_bounds_every_tree};
 use tree_document::{Mark, Tree, TreeRow};
 use tree_entry::EntryPlace;
 
@@ -41,7 +44,7 @@ pub fn check_entry(
     ensures bounded { result ≡ Ok Right → IsBounded built.now.graph (all_edges built.now.graph) tree.now.upper }
 {
     what_holds_bounds_every_tree();
-    let _count = built.graph.edge_count();
+    built.graph.is_graph();
     if let Some(number) = first_wrong_row(built, tree.rows.items()) {
         return Ok(EntryVerdict::Wrong(EntryPlace::Rows(number)));
     }
@@ -90,17 +93,48 @@ fn wrong_number(
     ensures { IfOk result (λ wrong. MatchOption wrong (MarkIsFitting built.now tree.now)
         (λ place. (budget : ℕ) → IsEntryPlace built.now tree.now budget place)) }
 {
-    let _count = built.graph.edge_count();
-    let score = built.graph.tree_score(edges);
-    if tree.score != score {
-        return Ok(Some(EntryPlace::Score(score)));
+    if let Some(place) = wrong_score(built, tree, edges) {
+        return Ok(Some(place));
     }
-    let cap = cap(alloc, &built.graph)?;
-    if tree.upper > cap {
-        return Ok(Some(EntryPlace::Upper(cap)));
+    if let Some(place) = wrong_upper(alloc, built, tree)? {
+        return Ok(Some(place));
     }
     if !fits_mark(tree.mark, tree.score, tree.upper) {
         return Ok(Some(EntryPlace::Mark));
+    }
+    Ok(None)
+}
+
+/// Where the score of a tree with right edges is wrong.
+fn wrong_score(built: &LossGraph, tree: &Tree, edges: &[EdgeId]) -> Option<EntryPlace>
+    requires vertices { length built.now.graph.colours ≤ greatest_graph }
+    requires before { NoneIsAdded built.now tree.now }
+    requires edges { edges.now ≡ edges_of tree.now.rows }
+    ensures { MatchOption result (ScoreIsRight built.now tree.now)
+        (λ place. (budget : ℕ) → IsEntryPlace built.now tree.now budget place) }
+{
+    built.graph.is_graph();
+    let score = built.graph.tree_score(edges);
+    if tree.score != score {
+        return Some(EntryPlace::Score(score));
+    }
+    None
+}
+
+/// Where the upper bound of a tree with a right score is wrong.
+fn wrong_upper(
+    alloc: Global,
+    built: &LossGraph,
+    tree: &Tree,
+) -> Result<Option<EntryPlace>, AllocError>
+    requires vertices { length built.now.graph.colours ≤ greatest_graph }
+    requires before { ScoreIsRight built.now tree.now }
+    ensures { IfOk result (λ wrong. MatchOption wrong (UpperIsCapped built.now tree.now)
+        (λ place. (budget : ℕ) → IsEntryPlace built.now tree.now budget place)) }
+{
+    let cap = cap(alloc, &built.graph)?;
+    if tree.upper > cap {
+        return Ok(Some(EntryPlace::Upper(cap)));
     }
     Ok(None)
 }
@@ -158,11 +192,30 @@ fn check_gap(
     match &tree.cert {
         // a table that holds is of a graph of few colours
         Cert::Table(_) => Ok(EntryVerdict::Wrong(EntryPlace::FewColours(colours))),
-        Cert::Bounds(bound) => {
-            match wrong_gap(alloc, &built.graph, bound, tree.score, tree.upper, budget)? {
-                Some(place) => Ok(EntryVerdict::Wrong(place)),
-                None => Ok(EntryVerdict::Right),
-            }
-        }
+        Cert::Bounds(bound) => check_spending(alloc, built, tree, bound, budget),
     }
+}
+
+/// Whether the budget of splits was spent on a bound that holds, of a graph of many colours.
+fn check_spending(
+    alloc: Global,
+    built: &LossGraph,
+    tree: &Tree,
+    bound: &Bound,
+    budget: u32,
+) -> Result<EntryVerdict, AllocError>
+    requires vertices { length built.now.graph.colours ≤ greatest_graph }
+    requires depth { depth_of (bound_value bound.now) ≤ greatest_depth }
+    requires few { splits_of (bound_value bound.now) < 2 ^ 31 }
+    requires before { CertIsRight built.now tree.now }
+    requires gap { tree.now.mark ≡ mark.Gap }
+    requires many { greatest_colours < colour_count built.now.graph }
+    requires bound { tree.now.cert ≡ a_bound (bound_value bound.now) }
+    ensures { IfOk result (λ verdict. IsEntryVerdict built.now tree.now budget verdict) }
+{
+    let wrong = wrong_gap(alloc, &built.graph, bound, tree.score, tree.upper, budget)?;
+    Ok(match wrong {
+        Some(place) => EntryVerdict::Wrong(place),
+        None => EntryVerdict::Right,
+    })
 }

@@ -9,8 +9,8 @@ ghost use Rattle.tree_certificate.specs.BoundHolds.{greatest_depth};
 ghost use Rattle.tree_certificate.specs.BoundValue.{BoundValue};
 ghost use Rattle.tree_certificate.specs.BoundView.{bound_value};
 ghost use Rattle.tree_certificate.specs.PriceHolds.{PriceHolds};
-ghost use Rattle.tree_certificate.specs.Spent.{Fork, IsGreatestTotal, Leaf, Spent, forks_of, leaves_of};
-ghost use Rattle.entry_checker.specs.GapPlaces.{IsGapPlace, UpperIsReached, all_forks, all_leaves};
+ghost use Rattle.tree_certificate.specs.Spent.{SplitNode, IsGreatestTotal, Leaf, Spent, split_nodes_of, leaves_of};
+ghost use Rattle.entry_checker.specs.GapPlaces.{IsGapPlace, UpperIsReached, all_splits, all_leaves};
 ghost use Rattle.entry_checker.specs.inside.Gathered.{Gathered, HasTotals, found_with};
 
 use crate::cap::cap_in;
@@ -95,7 +95,7 @@ fn nothing_found() -> Found
 fn first_place(found: &Found) -> Option<EntryPlace>
     ensures { (graph : Graph) → (bound : BoundValue) → (score upper : ℤ) → (budget : ℕ)
         → UpperIsReached graph bound upper budget
-        → Gathered graph score upper (all_leaves graph bound) (all_forks graph bound) found.now
+        → Gathered graph score upper (all_leaves graph bound) (all_splits graph bound) found.now
         → MatchOption result (Spent graph bound score upper budget)
         (λ place. IsGapPlace graph bound score upper budget place) }
 {
@@ -141,11 +141,11 @@ fn look_at(
     requires set { IsSetOf graph.now allowed.old }
     requires holds { BoundHolds graph.now allowed.old (bound_value bound.now) gap.upper }
     ensures next { OnOk result (found.new.next ≡ found.old.next + nodes_of (bound_value bound.now)) }
-    ensures gathered { OnOk result ((leaves : List Leaf) → (forks : List Fork)
-        → Gathered graph.now gap.score gap.upper leaves forks found.old
+    ensures gathered { OnOk result ((leaves : List Leaf) → (splits : List SplitNode)
+        → Gathered graph.now gap.score gap.upper leaves splits found.old
         → Gathered graph.now gap.score gap.upper
         (leaves ++ leaves_of graph.now allowed.old (bound_value bound.now) found.old.next)
-        (forks ++ forks_of graph.now allowed.old (bound_value bound.now) found.old.next) found.new) }
+        (splits ++ split_nodes_of graph.now allowed.old (bound_value bound.now) found.old.next) found.new) }
     ensures set { OnOk result (allowed.new ≡ allowed.old) }
     ensures taken { OnOk result (taken.new.items ≡ taken.old.items) }
 {
@@ -182,10 +182,10 @@ fn look_at_leaf(
     requires holds { PriceHolds graph.now allowed.now cert.now }
     requires few { found.old.next + 1 < 2 ^ 32 }
     ensures next { found.new.next ≡ found.old.next + 1 }
-    ensures gathered { (leaves : List Leaf) → (forks : List Fork)
-        → Gathered graph.now gap.score gap.upper leaves forks found.old
+    ensures gathered { (leaves : List Leaf) → (splits : List SplitNode)
+        → Gathered graph.now gap.score gap.upper leaves splits found.old
         → Gathered graph.now gap.score gap.upper
-        (leaves ++ (record { node = found.old.next; allowed = allowed.now; cert = cert.now }) ∷ []) forks found.new }
+        (leaves ++ (record { node = found.old.next; allowed = allowed.now; cert = cert.now }) ∷ []) splits found.new }
 {
     let node = found.next;
     let total = total_of(graph, cert);
@@ -202,10 +202,10 @@ fn look_at_split(graph: &ColourGraph, allowed: &Allowed, gap: Gap, found: &mut F
     requires set { IsSetOf graph.now allowed.now }
     requires few { found.old.next + 1 < 2 ^ 32 }
     ensures next { found.new.next ≡ found.old.next + 1 }
-    ensures gathered { (leaves : List Leaf) → (forks : List Fork)
-        → Gathered graph.now gap.score gap.upper leaves forks found.old
+    ensures gathered { (leaves : List Leaf) → (splits : List SplitNode)
+        → Gathered graph.now gap.score gap.upper leaves splits found.old
         → Gathered graph.now gap.score gap.upper leaves
-        (forks ++ (record { node = found.old.next; allowed = allowed.now }) ∷ []) found.new }
+        (splits ++ (record { node = found.old.next; allowed = allowed.now }) ∷ []) found.new }
 {
     let node = found.next;
     let useful = gap.upper <= cap_in(graph, allowed);
@@ -239,7 +239,7 @@ fn is_decided(graph: &ColourGraph, allowed: &Allowed) -> bool
     requires set { IsSetOf graph.now allowed.now }
     ensures { IsTrue result ↔ IsDecided graph.now allowed.now }
 {
-    let _count = graph.edge_count();
+    graph.is_graph();
     for before in 0..graph.colour_count() {
         if allowed.into_colour(graph, before as Colour + 1) > 1 {
             return false;

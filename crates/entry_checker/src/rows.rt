@@ -15,7 +15,7 @@ pub(crate) fn first_wrong_row(built: &LossGraph, rows: &[TreeRow]) -> Option<u32
     requires vertices { length built.now.graph.colours ≤ greatest_graph }
     ensures { MatchOption result (AreRows built.now rows.now) (λ number. IsRowsPlace built.now rows.now number) }
 {
-    let _count = built.graph.edge_count();
+    built.graph.is_graph();
     let mut firsts = [0u32; GREATEST_GRAPH as usize];
     for place in 0..rows.len() {
         if !is_row(built, rows, place, &firsts) {
@@ -88,7 +88,7 @@ fn note_row(graph: &ColourGraph, rows: &[TreeRow], place: usize, firsts: &mut [u
     ensures firsts { AreFirsts graph.now rows.now (place + 1) firsts.new }
     ensures length { length firsts.new ≡ length firsts.old }
 {
-    let _count = graph.edge_count();
+    graph.is_graph();
     let head = usize::from(graph.edge_at(rows[place].edge).head);
     if firsts[head] == 0 {
         firsts[head] = place as u32 + 1;

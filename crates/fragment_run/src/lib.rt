@@ -3,7 +3,8 @@
 
 ghost use Rattle.std.specs.Prelude.{◌≡◌, ◌↔◌, false, Some, None};
 ghost use Rattle.frag_io.specs.declared.desk.Slot.{Slot};
-ghost use Rattle.order_words.specs.Orders.{DocumentNames, ListNames, Order, check, list, order_of, profile_named, solve};
+ghost use Rattle.order_words.specs.Orders.{DocumentNames, ListNames, Order, check, list, order_of, profile_named};
+ghost use Rattle.order_words.specs.Orders.{solve};
 ghost use Rattle.order_words.specs.Words.{texts_of};
 ghost use Rattle.run_plan.specs.Causes.{Causes};
 ghost use Rattle.run_plan.specs.ProfilePromise.{ProfilePromise};

@@ -1,5 +1,6 @@
 -- `IsReport`: how the sections of a report follow one another, and what its first parts are.
-use Rattle.std.proofs.Common.{◌≡◌, ◌++◌, ℕ, List, [], ◌∷◌, Bool, false, length, take, drop, Option, sym, ◌∙◌, ap, subst, append-nil, arith, if◌then◌else◌, nat_lt}
+use Rattle.std.proofs.Common.{◌≡◌, ◌++◌, ℕ, List, [], ◌∷◌, Bool, false, length, take, drop, Option, sym, ◌∙◌, ap, subst}
+use Rattle.std.proofs.Common.{append-nil, arith, if◌then◌else◌, nat_lt}
 use Rattle.std.proofs.Math.Seq.{take-length}
 use Rattle.std.proofs.lemmas.Bool.Decides.{nat_tests}
 use Rattle.std.specs.List.{flat_map}

@@ -17,14 +17,12 @@ ghost use Rattle.list_command.specs.ListPromise.{ListPromise, list_meaning};
 
 use crate::report::report_of;
 use adducts::Adduct;
-use element_table::Formula;
 use frag_io::Desk;
 use order_words::ListNames;
 use profile::Profile;
-use right_document::{RunSettings, fragment_rules_of, run_settings};
+use right_document::{RunSettings, run_settings, sieve_of};
 use run_plan::{Status, read_spectra, take_profile, write_report};
 use std::alloc::Global;
-use valence_filter::{Sieve, all_hold};
 
 /// Lists the formulas of the text that a name gives, under the profile that is named, for ions of the adduct.
 pub fn list<D: Desk>(alloc: Global, names: &ListNames, desk: &mut D) -> Status
@@ -38,10 +36,7 @@ pub fn list<D: Desk>(alloc: Global, names: &ListNames, desk: &mut D) -> Status
         Ok(profile) => profile,
         Err(status) => return status,
     };
-    match list_under(alloc, names.spectra, &profile, names.adduct, desk) {
-        Ok(()) => Status::Done,
-        Err(status) => status,
-    }
+    Status::of(list_under(alloc, names.spectra, &profile, names.adduct, desk))
 }
 
 /// Lists under a profile, for ions of an adduct.
@@ -62,12 +57,7 @@ fn list_under<D: Desk>(
     ensures own { IsOfProfile (class_of (status_of result)) → ⊥ }
     ensures an_order { status_of result ≢ Status.Words }
 {
-    let rules = fragment_rules_of(alloc, profile, &adduct)?;
-    let kept = Vec::from_slice(alloc, &rules)?;
-    let Ok(test) = Box::new(alloc, move |formula: &Formula| all_hold(&kept, formula)) else {
-        return Err(Status::Memory);
-    };
-    let settings = run_settings(profile, adduct, Sieve::new(rules, test));
+    let settings = run_settings(profile, adduct, sieve_of!(alloc, profile, &adduct));
     list_steps(alloc, name, &settings, desk)
 }
 

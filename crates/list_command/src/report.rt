@@ -9,9 +9,10 @@ ghost use Rattle.right_document.specs.OneEach.{OneEach};
 ghost use Rattle.right_document.specs.Outlined.{IsOutlined, Outlined};
 ghost use Rattle.list_command.specs.Sections.{IsReport};
 
-use crate::section::{push_ending, push_section};
+use crate::section::push_section;
 use mgf_reader::{MgfFault, Reader};
-use right_document::RunSettings;
+use rank_report::push_list_ending;
+use right_document::{RunSettings, ending_of};
 use run_plan::read_all;
 use std::alloc::{AllocError, Global};
 
@@ -28,7 +29,7 @@ pub fn report_of(
     let fault = read_all(&mut reader, text)?;
     let mut report = Vec::new(alloc);
     push_sections(alloc, &mut report, &mut reader, settings)?;
-    push_ending(alloc, &mut report, fault)?;
+    push_list_ending(&mut report, &ending_of(fault))?;
     Ok((report, fault))
 }
 

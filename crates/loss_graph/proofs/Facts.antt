@@ -127,6 +127,13 @@ pub record Known (choice : Choice) (root : List ℕ) (lists : List FormulaListVa
   pub formula : IsFormula root
   pub formulas : (number : ℕ) → 0 < number → number < length lists → All IsFormula (list_at lists number).formulas
 
+pub known_of : (choice : Choice) (root given : List ℕ) (lists : List FormulaListValue) → Laws → root ≡ given
+    → AreLists choice given lists → IsFormula root
+    → ((number : ℕ) → 0 < number → number < length lists → All IsFormula (list_at lists number).formulas)
+    → Known choice root lists
+known_of choice root given lists laws same are formula formulas =
+    record { laws = laws; are_lists = rw (← same) at are; formula = formula; formulas = formulas }
+
 pub vertices_chain : (choice : Choice) (root : List ℕ) (spectrum : List FormulaListValue) → Known choice root spectrum
     → IsChain (IsPart choice root spectrum) (root_vertex root) (later_vertices root spectrum)
 vertices_chain choice root spectrum known =

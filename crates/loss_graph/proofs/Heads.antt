@@ -1,6 +1,6 @@
 -- Of edges_to and head_score_of: how edges are joined head by head, and what scores of heads need.
 use Rattle.std.proofs.Common.{◌≡◌, ◌+◌, ◌-◌, ◌<◌, ◌≤◌, ◌^◌, ◌∙◌, ℕ, ℤ, List, [], length, map, drop, get_or, ap, sym}
-use Rattle.std.proofs.Common.{arith}
+use Rattle.std.proofs.Common.{append_assoc, arith}
 use Rattle.std.proofs.lemmas.List.{flat_map_more, get_or-drop, get_or-map, length-drop, length-map}
 use Rattle.std.proofs.lemmas.List.Elements.{All-append, All-map, All-weaker}
 use Rattle.std.specs.List.{filter, flat_map, range_with_len}
@@ -12,7 +12,7 @@ use Rattle.loss_graph.specs.Lists.{AreLists, greatest_intensity, list_at}
 use Rattle.loss_graph.specs.LossGraph.{edges_to, head_score_of}
 use Rattle.loss_graph.specs.Vertices.{vertex_at}
 use Rattle.loss_graph.specs.declared.vertex.Vertex.{Vertex}
-use Rattle.loss_graph.specs.inside.Joining.{CanJoin, edge_between, edges_below, with_edges, without_edges}
+use Rattle.loss_graph.specs.inside.Joining.{CanJoin, edge_between, edges_below, with_edges}
 use Rattle.loss_graph.proofs.Joining.{HeadsBelow, edges_below-all, is_tail, range-more}
 use Rattle.loss_graph.proofs.Weights.{fold-le, le-fold}
 
@@ -35,18 +35,20 @@ pub edges_to-root : (choice : Choice) (scores : ScoresValue) (lists : List Formu
 edges_to-root choice scores lists vertices can = edges_to-joined choice scores lists vertices 0 can can.some
 
 pub heads-more : (choice : Choice) (scores : ScoresValue) (lists : List FormulaListValue) (vertices : List Vertex)
-    (root_score base : ℤ) (head : ℕ) (now new : Graph) → CanJoin vertices
-    → head < length vertices → now ≡ with_edges (without_edges root_score vertices)
+    (start : Graph) (base : ℤ) (head : ℕ) (now new : Graph) → CanJoin vertices
+    → head < length vertices → now ≡ with_edges start
     (flat_map (edges_to choice scores lists vertices) (range_with_len 0 head))
     → new ≡ with_edges now (edges_below scores vertices base head head) → base
     ≡ head_score_of choice scores lists (vertex_at vertices head)
-    → new ≡ with_edges (without_edges root_score vertices)
-    (flat_map (edges_to choice scores lists vertices) (range_with_len 0 (head + 1)))
-heads-more choice scores lists vertices root_score base head now new can at so_far added same =
+    → new ≡ with_edges start (flat_map (edges_to choice scores lists vertices) (range_with_len 0 (head + 1)))
+heads-more choice scores lists vertices start base head now new can at so_far added same =
     added ∙ ap (λ b. with_edges now (edges_below scores vertices b head head)) same
     ∙ ap (λ edges. with_edges now edges) (sym (edges_to-joined choice scores lists vertices head can at))
     ∙ ap (λ graph. with_edges graph (edges_to choice scores lists vertices head)) so_far
-    ∙ ap (with_edges (without_edges root_score vertices))
+    ∙ ap (λ edges. record { root_score = start.root_score; colours = start.colours; edges = edges })
+    (append_assoc start.edges (flat_map (edges_to choice scores lists vertices) (range_with_len 0 head))
+    (edges_to choice scores lists vertices head))
+    ∙ ap (with_edges start)
     (flat_map_more (edges_to choice scores lists vertices) [] (range_with_len 0 head) head
     ∙ ap (flat_map (edges_to choice scores lists vertices)) (sym (range-more head)))
 

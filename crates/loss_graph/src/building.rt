@@ -1,14 +1,14 @@
 //! How the graph of a candidate is built.
 ghost use Rattle.std.specs.Prelude.{◌≡◌, ◌≤◌, ◌<◌, ℕ, Err, IfOk, length, map};
-ghost use Rattle.std.specs.List.{All};
+ghost use Rattle.std.specs.List.{All, flat_map, range_with_len};
 ghost use Rattle.colour_graph.specs.Graph.{greatest_graph};
 ghost use Rattle.element_table.specs.Formula.{IsFormula};
 ghost use Rattle.loss_graph.specs.Lists.{AreLists, list_at, root_of};
-ghost use Rattle.loss_graph.specs.LossGraph.{IsLossGraph, graph_over, loss_graph_of};
+ghost use Rattle.loss_graph.specs.LossGraph.{IsLossGraph, edges_to, graph_over, loss_graph_of};
 ghost use Rattle.loss_graph.specs.Vertices.{vertex_at, vertices_of};
 ghost use Rattle.loss_graph.specs.declared.outcome.GraphFault.{GraphFault};
 ghost use Rattle.loss_graph.specs.declared.outcome.GraphFault.TheVariants.{TooLarge};
-ghost use Rattle.loss_graph.specs.inside.Joining.{CanJoin};
+ghost use Rattle.loss_graph.specs.inside.Joining.{CanJoin, with_edges, without_edges};
 ghost use Rattle.loss_graph.specs.inside.Placed.{IsPart};
 
 use crate::edges::{add_edges_to, add_vertices};
@@ -96,12 +96,32 @@ fn graph_over_vertices(
     let root_score = error_score(choice, scores, &lists[0], &vertices[0].formula);
     let mut builder = GraphBuilder::new(alloc, root_score)?;
     add_vertices(&mut builder, vertices)?;
+    add_edges(&mut builder, lists, choice, scores, vertices)?;
+    Ok(builder.finish())
+}
+
+/// Adds the edges between the vertices of a candidate, by their heads.
+fn add_edges(
+    builder: &mut GraphBuilder,
+    lists: &[FormulaList],
+    choice: &Choice,
+    scores: &Scores,
+    vertices: &[Vertex],
+) -> Result<(), AllocError>
+    requires can { CanJoin vertices.now }
+    requires lists { AreLists choice.now (vertex_at vertices.now 0).formula lists.now }
+    requires parts { (place : ℕ) → 0 < place → place < length vertices.now
+        → IsPart choice.now (vertex_at vertices.now 0).formula lists.now (vertex_at vertices.now place) }
+    requires none { builder.old ≡ without_edges builder.old.root_score vertices.now }
+    ensures { IfOk result (λ _. builder.new ≡ with_edges builder.old
+        (flat_map (edges_to choice.now scores.now lists.now vertices.now) (range_with_len 0 (length vertices.now)))) }
+{
     let greatest = greatest_intensity(lists);
     for head in 1..vertices.len() {
         let base = head_score(choice, scores, lists, greatest, &vertices[head]);
-        add_edges_to(&mut builder, scores, vertices, base, head)?;
+        add_edges_to(builder, scores, vertices, base, head)?;
     }
-    Ok(builder.finish())
+    Ok(())
 }
 
 /// The formulas of the vertices.

@@ -8,7 +8,8 @@ use Rattle.colour_graph.specs.Colourful.{total}
 use Rattle.colour_graph.specs.Graph.{Graph, IsGraph, colour_count, colour_of, edge_at, head_colour}
 use Rattle.tree_certificate.specs.PriceHolds.{edges_between, gain_by, gain_of}
 use Rattle.tree_certificate.proofs.Sums.{IsIn}
-use Rattle.price_bound.specs.inside.Exact.{AreExactAbove, cert_with, gain_at, gain_with, gained_above, number_in}
+use Rattle.tree_certificate.specs.Number.{number_in}
+use Rattle.price_bound.specs.inside.Exact.{AreExactAbove, cert_with, gain_at, gain_with, gained_above}
 use Rattle.price_bound.proofs.Edges.{IsBetween, edges_between-in, range-in}
 
 pub map-same : {X : Type 0} (f g : X → ℤ) (xs : List X) → ((x : X) → IsIn x xs → f x ≡ g x) → map f xs ≡ map g xs

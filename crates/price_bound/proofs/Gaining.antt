@@ -4,7 +4,8 @@ use Rattle.colour_graph.specs.EdgeSet.{AreInto, is_allowed}
 use Rattle.colour_graph.specs.Graph.{Graph, edge_at}
 use Rattle.tree_certificate.specs.PriceHolds.{edges_between}
 use Rattle.tree_certificate.proofs.Sums.{IsIn}
-use Rattle.price_bound.specs.inside.Exact.{IsGreater, gain_at, gain_with, number_in}
+use Rattle.tree_certificate.specs.Number.{number_in}
+use Rattle.price_bound.specs.inside.Exact.{IsGreater, gain_at, gain_with}
 use Rattle.price_bound.proofs.Edges.{IsBetween, IsInto, edges_between-in, in-edges_between}
 use Rattle.price_bound.proofs.Greatest.{IsGreatest, greatest-is, greatest-none, greatest-with, greatest-without}
 use Rattle.price_bound.proofs.Numbers.{set-at}

@@ -10,11 +10,11 @@ use Rattle.colour_graph.specs.Cap.{cap_of}
 use Rattle.colour_graph.specs.Colourful.{total}
 use Rattle.colour_graph.specs.EdgeSet.{colours_of, edges_into}
 use Rattle.colour_graph.specs.Graph.{Graph, colour_count, edge_at}
-use Rattle.tree_certificate.specs.Number.{AreNear, greatest_number, is_near}
+use Rattle.tree_certificate.specs.Number.{AreNear, greatest_number, is_near, number_in}
 use Rattle.tree_certificate.specs.PriceHolds.{FitsPrices, PriceHolds, edges_between, gain_by, gain_of, needed_of}
 use Rattle.tree_certificate.specs.PriceHolds.{price_of, price_total}
 use Rattle.tree_certificate.proofs.Sums.{IsIn, sum_of-zero}
-use Rattle.price_bound.specs.inside.Exact.{AreAmounts, AreExactAbove, IsAmount, cert_with, gained_above, number_in}
+use Rattle.price_bound.specs.inside.Exact.{AreAmounts, AreExactAbove, IsAmount, cert_with, gained_above}
 use Rattle.price_bound.specs.declared.offers.Priced.{Priced}
 use Rattle.price_bound.specs.inside.Kept.{IsKept, best_into, best_weights}
 use Rattle.price_bound.proofs.Edges.{edges_between-in, in-edges_into, range-in, weight_at}

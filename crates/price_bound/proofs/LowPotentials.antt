@@ -11,7 +11,8 @@ use Rattle.colour_graph.proofs.Order.{colour-le_count}
 use Rattle.tree_certificate.specs.PriceHolds.{edges_between, gain_by, gain_of}
 use Rattle.tree_certificate.proofs.Sums.{IsIn}
 use Rattle.tree_certificate.proofs.SetParts.{powers-le}
-use Rattle.price_bound.specs.inside.Exact.{AreExactAbove, IsTooHigh, cert_with, gained_above, number_in}
+use Rattle.tree_certificate.specs.Number.{number_in}
+use Rattle.price_bound.specs.inside.Exact.{AreExactAbove, IsTooHigh, cert_with, gained_above}
 use Rattle.price_bound.proofs.Adding.{gain_at-none, gained_above-more}
 use Rattle.price_bound.proofs.Edges.{edges_between-in}
 use Rattle.price_bound.proofs.Greatest.{greatest-low}

@@ -4,7 +4,8 @@ use Rattle.std.proofs.Common.{◌++◌, length, slice_set, get_or-set_other, get
 use Rattle.std.proofs.lemmas.Bool.{cases_eq}
 use Rattle.std.proofs.lemmas.Int.{ints}
 use Rattle.colour_graph.specs.Graph.{IsScore}
-use Rattle.price_bound.specs.inside.Exact.{IsAmount, IsGainAmount, number_in}
+use Rattle.tree_certificate.specs.Number.{number_in}
+use Rattle.price_bound.specs.inside.Exact.{IsAmount, IsGainAmount}
 
 pub number_in-same : (numbers : List ℤ) (place : ℕ) (number : ℤ) → place < length numbers
     → number_in (slice_set numbers place number) place ≡ number

@@ -17,7 +17,8 @@ use Rattle.colour_graph.proofs.Order.{colour-le_count}
 use Rattle.tree_certificate.specs.BoundHolds.{IsDecided}
 use Rattle.tree_certificate.specs.PriceHolds.{edges_between, gain_by, gain_of}
 use Rattle.tree_certificate.proofs.Sums.{IsIn, sum_of}
-use Rattle.price_bound.specs.inside.Exact.{AreExactAbove, IsTooHigh, cert_with, gained_above, number_in}
+use Rattle.tree_certificate.specs.Number.{number_in}
+use Rattle.price_bound.specs.inside.Exact.{AreExactAbove, IsTooHigh, cert_with, gained_above}
 use Rattle.price_bound.proofs.Adding.{gained_above-more, map-same}
 use Rattle.price_bound.proofs.Edges.{IsInto, colours-few, edges_between-in, edges_into-in, in-edges_between}
 use Rattle.price_bound.proofs.Edges.{in-edges_into, range-in, weight_at}

@@ -9,7 +9,8 @@ use Rattle.colour_graph.specs.Graph.{Graph, IsGraph, colour_count}
 use Rattle.tree_certificate.specs.BoundHolds.{IsDecided}
 use Rattle.tree_certificate.specs.PriceHolds.{FitsPrices, PriceHolds, price_total}
 use Rattle.price_bound.specs.Plain.{IsPlain, IsTreeScore}
-use Rattle.price_bound.specs.inside.Exact.{AreAmounts, AreExactAbove, IsTooHigh, cert_with, number_in}
+use Rattle.tree_certificate.specs.Number.{number_in}
+use Rattle.price_bound.specs.inside.Exact.{AreAmounts, AreExactAbove, IsTooHigh, cert_with}
 use Rattle.price_bound.proofs.Keeping.{clear-replicate, holds-exact, needed-is}
 use Rattle.price_bound.proofs.LowPotentials.{not_high-few}
 use Rattle.price_bound.proofs.Numbers.{IsAmount-zero}

@@ -18,7 +18,8 @@ use Rattle.tree_certificate.specs.PriceHolds.{price_total}
 use Rattle.tree_certificate.proofs.Members.{IsIn-filter, IsIn-map, IsIn-range}
 use Rattle.tree_certificate.proofs.Sums.{IsIn, sum_of}
 use Rattle.price_bound.specs.Plain.{IsTreeScore}
-use Rattle.price_bound.specs.inside.Exact.{AreExactAbove, cert_with, number_in}
+use Rattle.tree_certificate.specs.Number.{number_in}
+use Rattle.price_bound.specs.inside.Exact.{AreExactAbove, cert_with}
 use Rattle.price_bound.proofs.Edges.{IsInto, filter-in, range-in, weight_at}
 use Rattle.price_bound.proofs.Owning.{IsHeld, Owners, at_owned, at_vertex, edge_into, owners-at}
 

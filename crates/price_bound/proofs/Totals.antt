@@ -8,8 +8,7 @@ use Rattle.std.proofs.lemmas.List.Sums.{AllPass-from_list_all}
 use Rattle.std.specs.List.{list_all}
 use Rattle.colour_graph.specs.Colourful.{total}
 use Rattle.colour_graph.specs.Graph.{IsScore}
-use Rattle.price_bound.specs.inside.Exact.{number_in}
-use Rattle.tree_certificate.specs.Number.{AreNear, greatest_number, is_near}
+use Rattle.tree_certificate.specs.Number.{AreNear, greatest_number, is_near, number_in}
 
 last_added : (n : ℤ) → n +ℤ pos 0 ≡ pos 0 +ℤ n
 last_added n = omega (arith, ints)

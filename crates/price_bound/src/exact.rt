@@ -3,7 +3,8 @@ ghost use Rattle.std.specs.Prelude.{◌≡◌, ◌≤◌, ◌<◌, ◌+ℤ◌, �
 ghost use Rattle.colour_graph.specs.EdgeSet.{IsSetOf};
 ghost use Rattle.colour_graph.specs.Graph.{IsScore, colour_count};
 ghost use Rattle.price_bound.specs.inside.Exact.{AreAmounts, AreClear, AreExactAbove, AreGainAmounts, IsAmount};
-ghost use Rattle.price_bound.specs.inside.Exact.{IsGainAmount, IsGreater, IsTooHigh, cert_with, gain_at, number_in};
+ghost use Rattle.tree_certificate.specs.Number.{number_in};
+ghost use Rattle.price_bound.specs.inside.Exact.{IsGainAmount, IsGreater, IsTooHigh, cert_with, gain_at};
 
 use colour_graph::{Allowed, Colour, ColourGraph};
 use tree_certificate::GREATEST_NUMBER;
@@ -32,7 +33,7 @@ pub(crate) fn set_potentials(
     ensures high { result ≡ false → IsTooHigh graph.now allowed.now prices.now }
     ensures clear { AreClear gains.new }
 {
-    let _edges = graph.edge_count();
+    graph.is_graph();
     clear(potentials);
     let mut colour = graph.colour_count() as Colour;
     while colour > 0 {
@@ -76,15 +77,15 @@ fn gather_gains(
     ensures near { AreGainAmounts gains.new }
 {
     let (first, past) = graph.edges_into(colour);
-    for place in first..past {
-        if allowed.has(place) {
-            let edge = graph.edge_at(place);
-            let tail = usize::from(edge.tail);
+    for edge in first..past {
+        if allowed.has(edge) {
+            let here = graph.edge_at(edge);
+            let tail = usize::from(here.tail);
             gains[tail] = raised(
                 gains[tail],
-                edge.weight,
+                here.weight,
                 price,
-                potentials[usize::from(edge.head)],
+                potentials[usize::from(here.head)],
             );
         }
     }

@@ -31,23 +31,34 @@ pub fn improve(
     ensures holds { IfOk result (λ cert. PriceHolds graph.now allowed.now cert) }
     ensures capped { IfOk result (λ cert. price_total graph.now cert ≤ℤ cap_of graph.now allowed.now) }
 {
-    let _edges = graph.edge_count();
     let mut offers = Offers::new(alloc, graph, allowed)?;
     let packed = Packed::new(alloc, graph, allowed)?;
+    lower_total(graph, allowed, &packed, &mut offers);
+    Ok(PriceCert::new(offers.kept.prices, offers.kept.potentials).unwrap())
+}
+
+/// Lowers what the prices that are kept say: by the best prices of a walk, then by prices one higher or lower.
+fn lower_total(graph: &ColourGraph, allowed: &Allowed, packed: &Packed, offers: &mut Offers)
+    requires vertices { length graph.now.colours ≤ greatest_graph }
+    requires set { IsSetOf graph.now allowed.now }
+    requires packed { IsPacked packed.now }
+    requires offers { AreOffers graph.now allowed.now offers.old }
+    ensures offers { AreOffers graph.now allowed.now offers.new }
+{
+    graph.is_graph();
     let best = best_prices(
-        &packed,
+        packed,
         &scaled(&offers.kept.prices),
         graph.colour_count() as usize,
     );
     offers.offer_scaled(graph, allowed, &best);
     for _ in 0..PASSES {
         let before = offers.kept.total;
-        try_neighbours(graph, allowed, &packed, &mut offers);
+        try_neighbours(graph, allowed, packed, offers);
         if offers.kept.total == before {
             break;
         }
     }
-    Ok(PriceCert::new(offers.kept.prices, offers.kept.potentials).unwrap())
 }
 
 /// Tries each price one higher where its colour is used more than once, and one lower where it is not used.
@@ -58,7 +69,7 @@ fn try_neighbours(graph: &ColourGraph, allowed: &Allowed, packed: &Packed, offer
     requires offers { AreOffers graph.now allowed.now offers.old }
     ensures offers { AreOffers graph.now allowed.now offers.new }
 {
-    let _edges = graph.edge_count();
+    graph.is_graph();
     let prices = scaled(&offers.kept.prices);
     let potentials = packed.potentials(&prices);
     let uses = packed.uses(&prices, &potentials);

@@ -36,7 +36,7 @@ impl Offers {
         ensures offers { IfOk result (λ offers. AreOffers graph.now allowed.now offers) }
     {
         let vertices = graph.vertex_count() as usize;
-        let _edges = graph.edge_count();
+        graph.is_graph();
         let prices = greatest_weights(alloc, graph, allowed)?;
         let total = i64::from(graph.root_score()) + sum(&prices);
         let kept = Priced {
@@ -60,7 +60,7 @@ impl Offers {
         requires offers { AreOffers graph.now allowed.now self.old }
         ensures offers { AreOffers graph.now allowed.now self.new }
     {
-        let _edges = graph.edge_count();
+        graph.is_graph();
         round(&mut self.trial.prices, scaled);
         self.offer(graph, allowed);
     }

@@ -4,7 +4,7 @@ ghost use Rattle.std.specs.Prelude.{◌≤◌, ◌<◌, ◌^◌, IfOk, length};
 ghost use Rattle.std.specs.List.{All};
 ghost use Rattle.colour_graph.specs.EdgeSet.{IsSetOf};
 ghost use Rattle.colour_graph.specs.Graph.{greatest_graph};
-ghost use Rattle.price_bound.specs.inside.Packed.{AreHeld, IsGroup, IsPacked, IsScaled};
+ghost use Rattle.price_bound.specs.inside.Packed.{AreHeld, IsGroup, IsHeld, IsPacked, IsScaled};
 
 use colour_graph::{Allowed, ColourGraph, GREATEST_GRAPH, VertexId};
 use std::alloc::{AllocError, Global};
@@ -118,7 +118,7 @@ impl Packed {
         let mut most = NOTHING;
         let mut best = 0;
         for edge in &self.edges[group.first as usize..group.past as usize] {
-            let sum = i64::from(edge.weight) + potentials[usize::from(edge.head)];
+            let sum = reached(edge.weight, potentials[usize::from(edge.head)]);
             if sum > most {
                 most = sum;
                 best = edge.head;
@@ -126,6 +126,14 @@ impl Packed {
         }
         (most, best)
     }
+}
+
+/// A scaled weight and the potential of the edge's head.
+#[inline(always)]
+fn reached(weight: i32, potential: i64) -> i64
+    requires { IsHeld potential }
+{
+    i64::from(weight) + potential
 }
 
 /// The edges of a set in order of their tails, and of their places where these are the same.
@@ -147,19 +155,19 @@ fn edges_by_tail(
         weight: 0,
     };
     let mut edges = vec![in alloc; nothing; count as usize]?;
-    let mut place = graph.edge_count();
-    while place > 0 {
-        place -= 1;
-        if allowed.has(place) {
-            let edge = graph.edge_at(place);
-            let tail = usize::from(edge.tail);
+    let mut edge = graph.edge_count();
+    while edge > 0 {
+        edge -= 1;
+        if allowed.has(edge) {
+            let here = graph.edge_at(edge);
+            let tail = usize::from(here.tail);
             ends[tail] = ends[tail].saturating_sub(1);
             let to = ends[tail] as usize;
             if to < edges.len() {
                 edges[to] = Scaled {
-                    tail: edge.tail,
-                    head: edge.head,
-                    weight: edge.weight * ONE as i32,
+                    tail: here.tail,
+                    head: here.head,
+                    weight: here.weight * ONE as i32,
                 };
             }
         }
@@ -173,9 +181,9 @@ fn edges_from(graph: &ColourGraph, allowed: &Allowed) -> [u32; ROOM]
     requires set { IsSetOf graph.now allowed.now }
 {
     let mut counts = [0u32; ROOM];
-    for place in 0..graph.edge_count() {
-        if allowed.has(place) {
-            let tail = usize::from(graph.edge_at(place).tail);
+    for edge in 0..graph.edge_count() {
+        if allowed.has(edge) {
+            let tail = usize::from(graph.edge_at(edge).tail);
             counts[tail] = counts[tail].saturating_add(1);
         }
     }
@@ -199,7 +207,7 @@ fn groups_of(alloc: Global, graph: &ColourGraph, edges: &[Scaled]) -> Result<Vec
     requires few { length edges.now < 2 ^ 32 }
     ensures { IfOk result (λ groups. All (IsGroup (length edges.now)) groups.items) }
 {
-    let _edges_in_all = graph.edge_count();
+    graph.is_graph();
     let mut groups = Vec::new(alloc);
     let mut group = Group {
         tail: 0,

@@ -18,7 +18,7 @@ pub(crate) fn greatest_weights(
     ensures weights { IfOk result (λ weights. weights.items ≡ best_weights graph.now allowed.now) }
     ensures amounts { IfOk result (λ weights. AreAmounts weights.items) }
 {
-    let _edges = graph.edge_count();
+    graph.is_graph();
     let mut weights = Vec::new(alloc);
     for before in 0..graph.colour_count() {
         let weight = greatest_into(graph, allowed, before as Colour + 1);
@@ -38,9 +38,9 @@ fn greatest_into(graph: &ColourGraph, allowed: &Allowed, colour: Colour) -> i32
 {
     let (first, past) = graph.edges_into(colour);
     let mut most = 0;
-    for place in first..past {
-        if allowed.has(place) {
-            most = most.max(graph.edge_at(place).weight);
+    for edge in first..past {
+        if allowed.has(edge) {
+            most = most.max(graph.edge_at(edge).weight);
         }
     }
     most

@@ -26,7 +26,7 @@ pub(crate) fn total_of(graph: &ColourGraph, prices: &[i64], potentials: &[i64]) 
     requires potentials_near { AreNear potentials.now }
     ensures { result ≡ price_total graph.now (record { prices = prices.now; potentials = potentials.now }) }
 {
-    let _edges = graph.edge_count();
+    graph.is_graph();
     i64::from(graph.root_score()) + (potentials[0] + sum(prices))
 }
 

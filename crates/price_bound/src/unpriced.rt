@@ -25,7 +25,7 @@ pub fn plain(alloc: Global, graph: &ColourGraph, allowed: &Allowed) -> Result<Pr
     ensures tree { IsDecided graph.now allowed.now
         → IfOk result (λ cert. IsTreeScore graph.now allowed.now (price_total graph.now cert)) }
 {
-    let _edges = graph.edge_count();
+    graph.is_graph();
     let vertices = graph.vertex_count() as usize;
     let prices = vec![in alloc; 0i64; graph.colour_count() as usize]?;
     let mut potentials = vec![in alloc; 0i64; vertices]?;

@@ -6,7 +6,8 @@ use Rattle.adducts.specs.Selected.{Selected}
 use Rattle.adducts.specs.declared.choice.Choice.{Choice}
 use Rattle.adducts.specs.declared.outcome.Fit.{Fit}
 use Rattle.adducts.specs.declared.outcome.Fit.TheVariants as Found
-use Rattle.right_document.specs.Outline.{IsOutline, OutlineValue, explained}
+use Rattle.tree_document.specs.Outline.{OutlineValue}
+use Rattle.right_document.specs.Outline.{IsOutline, explained}
 use Rattle.right_document.specs.Outlined.{IsOutlined, Outlined}
 use Rattle.right_document.specs.RunSettings.{RunSettingsValue}
 

@@ -5,7 +5,7 @@ use Rattle.element_table.specs.Window.{greatest_half_width}
 use Rattle.tree_document.specs.Document.{AreGoodLines, IsGoodLine, outcome_lines}
 use Rattle.tree_document.specs.Line.{skip_line}
 use Rattle.tree_document.specs.declared.entry.Outcome.{Outcome}
-use Rattle.right_document.specs.Outline.{OutlineValue, listed, skipped}
+use Rattle.tree_document.specs.Outline.{OutlineValue, listed, skipped}
 
 -- where a spectrum is skipped, the line that says why is good
 abbrev pub HasGoodReason : OutlineValue → Type 0

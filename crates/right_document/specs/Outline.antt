@@ -1,4 +1,4 @@
--- The outline of a spectrum: its lists of formulas, or why it is skipped.
+-- Which outline is that of a spectrum: its lists of formulas, or why it is skipped.
 use Rattle.std.specs.Prelude.{◌≡◌, ℕ, List, ◌∷◌, map, Option, Some, None}
 use Rattle.std.specs.List.{find}
 use Rattle.element_table.specs.FormulaList.{FormulaListValue}
@@ -6,14 +6,9 @@ use Rattle.mgf_reader.specs.Spectrum.{PeakValue}
 use Rattle.adducts.specs.declared.outcome.Fit.{Fit}
 use Rattle.adducts.specs.declared.outcome.Fit.TheVariants as Found
 use Rattle.adducts.specs.Selected.{Selected}
-use Rattle.tree_document.specs.declared.document.Skip.{Skip}
 use Rattle.tree_document.specs.declared.document.Skip.TheVariants.{NoPrecursor, Charge, Range, TooMany}
+use Rattle.tree_document.specs.Outline.{OutlineValue, skipped, listed}
 use Rattle.right_document.specs.RunSettings.{RunSettingsValue, has_too_many, list_of_ion}
-
--- what stands of a spectrum: why it was skipped, or its lists, the precursor's first
-pub data OutlineValue : Type 0 where
-  skipped : Skip → OutlineValue
-  listed : List FormulaListValue → OutlineValue
 
 -- the m/z of each list: the precursor's, then those of the selected peaks
 abbrev pub mzs_of : ℕ → List PeakValue → List ℕ

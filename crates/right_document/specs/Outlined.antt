@@ -2,7 +2,8 @@
 use Rattle.std.specs.Prelude.{◌≡◌, ℕ, List}
 use Rattle.adducts.specs.Fit.{fit_of}
 use Rattle.mgf_reader.specs.Spectrum.{SpectrumValue}
-use Rattle.right_document.specs.Outline.{IsOutline, OutlineValue}
+use Rattle.tree_document.specs.Outline.{OutlineValue}
+use Rattle.right_document.specs.Outline.{IsOutline}
 use Rattle.right_document.specs.RunSettings.{RunSettingsValue}
 
 pub record Outlined : Type 0 where

@@ -1,16 +1,10 @@
--- What an outline that was made stands for, and what its lists are.
+-- What the lists of an outline are.
 use Rattle.std.specs.Prelude.{◌≤◌, ◌<◌, ◌+◌, ℕ, List, length, ⊤}
 use Rattle.std.specs.List.{All, Contains}
 use Rattle.adducts.specs.declared.choice.Choice.{Choice}
 use Rattle.element_table.specs.FormulaList.{FormulaListValue}
 use Rattle.loss_graph.specs.Lists.{AreLists, IsList, greatest_lists, list_at}
-use Rattle.right_document.specs.declared.outline.Outline.{Outline}
-use Rattle.right_document.specs.declared.outline.Outline.TheVariants.{Skipped, Listed}
-use Rattle.right_document.specs.Outline.{OutlineValue, skipped, listed}
-
-abbrev pub outline_of : Outline → OutlineValue
-outline_of (Skipped reason) = skipped reason
-outline_of (Listed lists) = listed lists.items
+use Rattle.tree_document.specs.Outline.{OutlineValue, skipped, listed}
 
 -- The lists of a spectrum: one for the precursor and one for each selected peak, which are no more than were chosen;
 -- where they are not too many, a graph can be built from them for each formula of the precursor's.

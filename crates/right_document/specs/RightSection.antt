@@ -20,7 +20,7 @@ use Rattle.tree_document.specs.declared.entry.Entry.{Entry}
 use Rattle.tree_document.specs.declared.entry.Outcome.{Outcome}
 use Rattle.tree_document.specs.declared.entry.Outcome.TheVariants.{Tree, TooLarge}
 use Rattle.right_document.specs.Candidates.{candidates_of, graph_of, ion_of, vertex_count_of}
-use Rattle.right_document.specs.Outline.{OutlineValue, listed, skipped}
+use Rattle.tree_document.specs.Outline.{OutlineValue, listed, skipped}
 use Rattle.right_document.specs.Outlined.{IsOutlined}
 use Rattle.right_document.specs.SolveSettings.{SolveSettingsValue}
 

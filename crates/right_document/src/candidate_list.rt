@@ -1,6 +1,5 @@
 //! The candidates of a spectrum, and how far off each of their ions is.
 ghost use Rattle.std.specs.Prelude.{◌≡◌, IfOk};
-ghost use Rattle.element_table.specs.Formula.{IsFormula};
 ghost use Rattle.loss_graph.specs.Lists.{AreLists, list_at, root_of, window_at};
 ghost use Rattle.loss_graph.specs.LossGraph.{error_of};
 ghost use Rattle.right_document.specs.Candidates.{candidates_of};
@@ -41,21 +40,12 @@ pub fn ion_error(lists: &[FormulaList], candidate: &Formula, choice: &Choice) ->
     ensures { result ≡ error_of (window_at choice.now (list_at lists.now 0)) (root_of choice.now candidate.now) }
 {
     let precursor = &lists[0];
-    // tells that the list holds formulas, so that no count of the ion is too great; nothing is done
-    let _listed = precursor.formulas.items();
     let adduct = &choice.adduct;
-    is_formula(candidate);
-    is_formula(&adduct.extra);
+    precursor.formulas.are_formulas();
+    candidate.is_formula();
+    adduct.extra.is_formula();
     let ion = candidate.plus(&adduct.extra);
     window(choice, precursor.mz)
         .centre
         .abs_diff(ion.mass() as i64)
-}
-
-/// Tells what every formula is, for proofs alone: it does nothing.
-#[inline]
-pub fn is_formula(formula: &Formula)
-    ensures { IsFormula formula.now }
-{
-    let _count = formula.count(0);
 }

@@ -1,35 +1,32 @@
 //! How a document ends for a text.
-ghost use Rattle.std.specs.Prelude.{◌≡◌, ◌≤◌};
+ghost use Rattle.std.specs.Prelude.{◌≡◌};
+ghost use Rattle.mgf_reader.specs.Fault.{kind_number};
 ghost use Rattle.tree_document.specs.Document.{IsGoodLine, ending_line};
-ghost use Rattle.tree_document.specs.Line.{greatest_line_number};
+ghost use Rattle.tree_document.specs.Line.{refused_line};
 ghost use Rattle.right_document.specs.Ending as spec;
 
-use mgf_reader::MgfFault;
+use mgf_reader::{MgfFault, MgfKind};
 use tree_document::{Ending, MgfEnd};
 
 /// The ending for a text with this fault, where it has one.
 pub fn ending_of(fault: Option<MgfFault>) -> Ending
-    ensures { result ≡ spec.ending_of fault }
+    ensures ending { result ≡ spec.ending_of fault }
+    ensures good { IsGoodLine (ending_line result) }
 {
     match fault {
         None => Ending::Clean,
-        Some(fault) => Ending::Refused(MgfEnd {
-            line: fault.line,
-            kind: fault.kind.number(),
-        }),
+        Some(fault) => Ending::Refused(refused_at(fault.line, fault.kind)),
     }
 }
 
-/// Tells that the line of an ending has a spelling, for proofs alone: it does nothing.
-pub fn ending_is_good(fault: Option<MgfFault>)
-    ensures { IsGoodLine (ending_line (spec.ending_of fault)) }
+/// The end of a text that this line refused, for this reason.
+fn refused_at(line: u32, kind: MgfKind) -> MgfEnd
+    ensures line { result.line ≡ line }
+    ensures kind { result.kind ≡ kind_number kind }
+    ensures good { IsGoodLine (refused_line result.line result.kind) }
 {
-    if let Some(fault) = fault {
-        is_line(fault.line);
+    MgfEnd {
+        line,
+        kind: kind.number(),
     }
 }
-
-/// Tells the range of a line, for proofs alone: it does nothing.
-fn is_line(line: u32)
-    ensures { line ≤ greatest_line_number }
-{}

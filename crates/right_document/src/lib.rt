@@ -8,10 +8,10 @@ mod laws;
 mod outline;
 mod settings;
 
-pub use candidate_list::{candidates, ion_error, is_formula};
-pub use ending::{ending_is_good, ending_of};
+pub use candidate_list::{candidates, ion_error};
+pub use ending::ending_of;
 pub use laws::a_spectrum_has_one_outline;
-pub use outline::{Outline, read_outline};
+pub use outline::read_outline;
 pub use settings::{
     RunSettings, SolveSettings, candidate_rules_of, fragment_rules_of, run_settings, solve_settings,
 };

@@ -5,10 +5,11 @@ ghost use Rattle.adducts.specs.Fit.{fit_of, greatest_neutral_mass};
 ghost use Rattle.adducts.specs.Selected.{StandApart};
 ghost use Rattle.loss_graph.specs.Lists.{IsList};
 ghost use Rattle.mgf_reader.specs.Spectrum.{PeakValue};
+ghost use Rattle.tree_document.specs.Outline.{outline_of};
 ghost use Rattle.right_document.specs.Outline.{IsOutline, explained};
 ghost use Rattle.right_document.specs.RunSettings.{has_too_many, list_of_ion, window_at};
 ghost use Rattle.right_document.specs.GoodLines.{HasGoodReason};
-ghost use Rattle.right_document.specs.Outlines.{HasOwnLists, outline_of};
+ghost use Rattle.right_document.specs.Outlines.{HasOwnLists};
 ghost use Rattle.right_document.specs.SettingsOf.{settings_value_of};
 
 use crate::settings::RunSettings;
@@ -17,15 +18,7 @@ use element_table::{FormulaList, Formulas};
 use formula_lister::{ListFault, list};
 use mgf_reader::{Peak, Spectrum};
 use std::alloc::{AllocError, Global};
-use tree_document::Skip;
-
-/// What stands of a spectrum.
-#[derive(Drop)]
-pub enum Outline {
-    Skipped(Skip),
-    /// The precursor's list, then those of the selected peaks.
-    Listed(Vec<FormulaList>),
-}
+use tree_document::{Outline, Skip};
 
 /// What stands of a spectrum.
 pub fn read_outline(

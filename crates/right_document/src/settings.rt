@@ -90,6 +90,25 @@ pub fn fragment_rules_of(
     Ok(rules)
 }
 
+/// The sieve of the rules of a fragment of an adduct's ions under a profile: `sieve_of!(alloc, profile, &adduct)`.
+/// Where there is no memory for it, the function that has this line ends with the error that stands for that. It is a
+/// macro, since no function may hand out the boxed closure that a sieve keeps.
+#[macro_export]
+macro_rules! sieve_of {
+    ($alloc:expr, $profile:expr, $adduct:expr) => {{
+        let rules = $crate::fragment_rules_of($alloc, $profile, $adduct)?;
+        let kept = std::vec::Vec::from_slice($alloc, &rules)?;
+        let test = std::boxed::Box::new(
+            $alloc,
+            move |formula: &element_table::Formula| valence_filter::all_hold(&kept, formula),
+        );
+        let Ok(test) = test else {
+            return Err(std::alloc::AllocError.into());
+        };
+        valence_filter::Sieve::new(rules, test)
+    }};
+}
+
 /// The rules of a candidate under a profile.
 pub fn candidate_rules_of(alloc: Global, profile: &Profile) -> Result<Vec<Rule>, AllocError>
     ensures { IfOk result (λ rules. rules.items ≡ neutral_rule_of ∷ profile.now.neutral_rules) }

@@ -1,5 +1,6 @@
 -- `ProfilePromise`: what is owed to a profile where it stopped a run, and where it was taken.
-use Rattle.std.proofs.Common.{◌≡◌, ◌≤◌, ◌<◌, ◌++◌, ◌⊎◌, inl, inr, ℕ, List, [], length, Option, Some, None, Result, Ok, Err, IfSome, sym, ◌∙◌, ap, subst, refl, arith, length-append}
+use Rattle.std.proofs.Common.{◌≡◌, ◌≤◌, ◌<◌, ◌++◌, ◌⊎◌, inl, inr, ℕ, List, [], length, Option, Some, None, Result, Ok}
+use Rattle.std.proofs.Common.{Err, IfSome, sym, ◌∙◌, ap, subst, refl, arith, length-append}
 use Rattle.std.specs.Prelude.{option_and_then, option_map}
 use Rattle.std.proofs.lemmas.Option.{IfSome_then, MatchOption-at_some}
 use Rattle.frag_io.specs.declared.desk.Slot.{Slot}
@@ -13,7 +14,8 @@ use Rattle.profile.specs.declared.fault.ProfileError.{ProfileError}
 use Rattle.profile.specs.declared.fault.ProfileError.TheVariants as P
 use Rattle.run_plan.specs.Plan.{Step, is_next, is_read_of, name_in, profile_steps, read}
 use Rattle.run_plan.specs.Causes.{CauseOf}
-use Rattle.run_plan.specs.Class.{Class, class_of, ended, refused, memory, open_fault, read_fault, too_long, IsAnswer, IsNext, IsOfProfile, StopsAt}
+use Rattle.run_plan.specs.Class.{Class, class_of, ended, refused, memory, open_fault, read_fault, too_long, IsAnswer}
+use Rattle.run_plan.specs.Class.{IsNext, IsOfProfile, StopsAt}
 use Rattle.run_plan.specs.Limits.{FitsLimit, greatest_text_of}
 use Rattle.run_plan.specs.ProfilePromise.{OnlyProfile, ProfilePromise, profile_outcome}
 use Rattle.run_plan.specs.ProfileTaken.{IsTaken, status_of_error}

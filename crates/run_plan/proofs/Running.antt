@@ -1,5 +1,7 @@
 -- `HasDone` and `Ends`: what the steps of a run keep, and how each of them ends it.
-use Rattle.std.proofs.Common.{◌≡◌, ◌≤◌, ◌<◌, ◌++◌, ◌⊎◌, inl, inr, ℕ, Bool, true, false, List, [], ◌∷◌, length, Option, Some, None, Result, Ok, Err, IfSome, sym, ◌∙◌, ap, subst, refl, arith, append-nil, length-append}
+use Rattle.std.proofs.Common.{◌≡◌, ◌≤◌, ◌<◌, ◌++◌, ◌⊎◌, inl, inr, ℕ, Bool, true, false, List, [], ◌∷◌, length, Option}
+use Rattle.std.proofs.Common.{Some, None, Result, Ok, Err, IfSome, sym, ◌∙◌, ap, subst, refl, arith, append-nil}
+use Rattle.std.proofs.Common.{length-append}
 use Rattle.std.specs.Prelude.{Vec, is_some, option_and_then, ◌↔◌, IfOk}
 use Rattle.std.specs.declared.alloc.Global.{Global}
 use Rattle.std.proofs.lemmas.Option.{IfSome_then, MatchOption-at_some}
@@ -17,14 +19,18 @@ use Rattle.profile.specs.declared.fault.ProfileFault.{ProfileFault}
 use Rattle.profile.specs.declared.fault.ProfileError.{ProfileError}
 use Rattle.profile.specs.declared.fault.ProfileError.TheVariants as P
 use Rattle.run_plan.specs.ProfileTaken.{status_of_error}
-use Rattle.run_plan.specs.Plan.{HasBegun, Step, begin, read, write, finish, is_finish_of, is_finished_in, is_next, is_read_in, is_read_of, is_same_slot, is_write_to, is_written_in, name_in, text_in}
+use Rattle.run_plan.specs.Plan.{HasBegun, Step, begin, read, write, finish, is_finish_of, is_finished_in, is_next}
+use Rattle.run_plan.specs.Plan.{is_read_in, is_read_of, is_same_slot, is_write_to, is_written_in, name_in, text_in}
 use Rattle.run_plan.specs.Causes.{CauseOf, IsUnwritten}
-use Rattle.run_plan.specs.Class.{Class, class_of, no_order, ended, refused, memory, open_fault, read_fault, write_fault, too_long, IsAnswer, StopsAt}
+use Rattle.run_plan.specs.Class.{Class, class_of, no_order, ended, refused, memory, open_fault, read_fault, write_fault}
+use Rattle.run_plan.specs.Class.{too_long, IsAnswer, StopsAt}
 use Rattle.run_plan.specs.Limits.{AreWithinLimits, FitsLimit, IsLeft, greatest_text_of}
 use Rattle.run_plan.specs.Running.{Ends, HasDone, open_status_of, read_status_of, write_status_of}
 use Rattle.run_plan.specs.declared.status.Status.{Status}
-use Rattle.run_plan.specs.declared.status.Status.TheVariants.{Memory, OpenFault, ProfileRefused, ReadFault, WriteFault, TooLong}
-use Rattle.run_plan.proofs.Plan.{any_new, any_same, is_same_slot-own, name_in-earlier, name_in-other, name_in-own, name_in-same, none_in, not_both, same_slot, slot_differs, slot_is, some_in, text_on}
+use Rattle.run_plan.specs.declared.status.Status.TheVariants.{Memory, OpenFault, ProfileRefused, ReadFault, WriteFault}
+use Rattle.run_plan.specs.declared.status.Status.TheVariants.{TooLong}
+use Rattle.run_plan.proofs.Plan.{any_new, any_same, is_same_slot-own, name_in-earlier, name_in-other, name_in-own}
+use Rattle.run_plan.proofs.Plan.{name_in-same, none_in, not_both, same_slot, slot_differs, slot_is, some_in, text_on}
 
 -- a fact of the value in an option, where the value may be named
 pub at_some : {A : Type 0} (o : Option A) (P : A → Type 0) → ((x : A) → o ≡ Some x → P x) → IfSome o P
@@ -204,21 +210,21 @@ done_read done before old now slot result bytes did is_read_slot first begun sam
           refl);
       opened = λ other is. elim (same_slot slot other) [
         | inl own ↦ subst (λ s. now.begun s ≡ true) own (same_begun slot ∙ begun)
-        | inr differs ↦ same_begun other ∙ did.opened other (sym (any_same (is_read_of other) done (read slot) differs.0)
-            ∙ is)
+        | inr differs ↦ same_begun other ∙ did.opened other
+            (sym (any_same (is_read_of other) done (read slot) differs.0) ∙ is)
       ];
       left = λ other other_read. elim (same_slot slot other) [
         | inl own ↦ subst (λ s. IfSome (text_in (done ++ read slot ∷ []) before s) (λ text. IsLeft (is_read_in (done ++
             read slot ∷ []) s) s text (now.left s))) own own_text
-        | inr differs ↦ text_on done (read slot) before other (λ text. IsLeft (is_read_in (done ++ read slot ∷ []) other)
-            other text (now.left other)) refl
+        | inr differs ↦ text_on done (read slot) before other
+            (λ text. IsLeft (is_read_in (done ++ read slot ∷ []) other) other text (now.left other)) refl
             (IfSome_then (text_in done before other) (did.left other other_read) (λ text is.
             subst (λ test. IsLeft test other text (now.left other)) (sym (any_same (is_read_of other) done (read slot)
             differs.0))
             (subst (λ l. IsLeft (is_read_in done other) other text l) (sym (keeps.others_left other differs.1)) is)))
       ];
-      unwritten = λ other written none. subst IsEmpty (sym (keeps.others_written other (λ is. both_kinds other (ap is_read
-          is ∙ is_read_slot) written)))
+      unwritten = λ other written none. subst IsEmpty
+          (sym (keeps.others_written other (λ is. both_kinds other (ap is_read is ∙ is_read_slot) written)))
           (did.unwritten other written (sym (any_same (is_write_to other) done (read slot) refl) ∙ none));
       gives = λ n. keeps.gives n ∙ did.gives n;
       counts = λ s. omega (arith, did.counts s, keeps.counts s);

@@ -1,5 +1,6 @@
 -- `OwesText` and `TextPromise`: what is owed to a text at each end of a command on it.
-use Rattle.std.proofs.Common.{◌≡◌, ◌≤◌, ◌++◌, ◌⊎◌, inl, inr, ℕ, List, length, Option, Some, None, Result, Ok, IfSome, sym, subst, refl}
+use Rattle.std.proofs.Common.{◌≡◌, ◌≤◌, ◌++◌, ◌⊎◌, inl, inr, ℕ, List, length, Option, Some, None, Result, Ok, IfSome}
+use Rattle.std.proofs.Common.{sym, subst, refl}
 use Rattle.frag_io.specs.declared.desk.Slot.{Slot}
 use Rattle.frag_io.specs.declared.desk.Slot.TheVariants.{Spectra, Profile}
 use Rattle.frag_io.specs.DeskState.{DeskState}
@@ -7,7 +8,8 @@ use Rattle.frag_io.specs.Desk.{IsEmpty, appended}
 use Rattle.profile.specs.Profile.{ProfileValue}
 use Rattle.profile.specs.declared.fault.ProfileFault.{ProfileFault}
 use Rattle.run_plan.specs.Causes.{IsUnwritten}
-use Rattle.run_plan.specs.Class.{Class, class_of, no_order, ended, refused, memory, open_fault, read_fault, write_fault, too_long, IsAnswer, IsOfProfile}
+use Rattle.run_plan.specs.Class.{Class, class_of, no_order, ended, refused, memory, open_fault, read_fault, write_fault}
+use Rattle.run_plan.specs.Class.{too_long, IsAnswer, IsOfProfile}
 use Rattle.run_plan.specs.Leaves.{Meaning}
 use Rattle.run_plan.specs.Limits.{greatest_text_of}
 use Rattle.run_plan.specs.ProfilePromise.{profile_outcome}

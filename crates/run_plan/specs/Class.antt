@@ -6,7 +6,8 @@ use Rattle.frag_io.specs.declared.desk.Slot.TheVariants.{Profile, CertIn}
 use Rattle.run_plan.specs.Plan.{Step, begin, read, write, finish}
 use Rattle.run_plan.specs.declared.status.Status.{Status}
 use Rattle.run_plan.specs.declared.status.Status.TheVariants.{Done, Words, Memory, ReadFault, WriteFault}
-use Rattle.run_plan.specs.declared.status.Status.TheVariants.{OpenFault, TooLong, MgfRefused, ProfileRefused, DocumentRefused, DocumentRejected}
+use Rattle.run_plan.specs.declared.status.Status.TheVariants.{OpenFault, TooLong, MgfRefused, ProfileRefused}
+use Rattle.run_plan.specs.declared.status.Status.TheVariants.{DocumentRefused, DocumentRejected}
 
 pub data Class : Type 0 where
   -- the words are no order

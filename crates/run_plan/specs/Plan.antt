@@ -1,5 +1,6 @@
 -- The plan of a run: the steps over the desk that a command is made of, in their order.
-use Rattle.std.specs.Prelude.{◌≡◌, ℕ, Bool, true, false, List, [], ◌∷◌, ◌++◌, Option, Some, None, is_some, option_and_then, IfSome, if◌then◌else◌}
+use Rattle.std.specs.Prelude.{◌≡◌, ℕ, Bool, true, false, List, [], ◌∷◌, ◌++◌, Option, Some, None, is_some}
+use Rattle.std.specs.Prelude.{option_and_then, IfSome, if◌then◌else◌}
 use Rattle.std.specs.List.{list_any}
 use Rattle.frag_io.specs.declared.desk.Slot.{Slot}
 use Rattle.frag_io.specs.declared.desk.Slot.TheVariants.{Spectra, Profile, CertIn, Report, CertOut}

@@ -9,7 +9,8 @@ use Rattle.profile.specs.declared.fault.ProfileFault.TheVariants.{NotToml, Unkno
 use Rattle.tree_document.specs.Title.{escaped}
 use Rattle.run_plan.specs.declared.status.Status.{Status}
 use Rattle.run_plan.specs.declared.status.Status.TheVariants.{Done, Words, Memory, ReadFault, WriteFault}
-use Rattle.run_plan.specs.declared.status.Status.TheVariants.{OpenFault, TooLong, MgfRefused, ProfileRefused, DocumentRefused, DocumentRejected}
+use Rattle.run_plan.specs.declared.status.Status.TheVariants.{OpenFault, TooLong, MgfRefused, ProfileRefused}
+use Rattle.run_plan.specs.declared.status.Status.TheVariants.{DocumentRefused, DocumentRejected}
 use Rattle.tree_document.specs.declared.fault.CertFault.{CertFault}
 use Rattle.tree_document.specs.declared.fault.CertFault.TheVariants as cert
 use Rattle.run_plan.specs.declared.reject.RejectPart.{RejectPart}

@@ -6,7 +6,8 @@ use Rattle.frag_io.specs.Desk.{IsCounted, IsEmpty}
 use Rattle.frag_io.specs.Slot.{IsRead, IsWritten}
 use Rattle.run_plan.specs.Class.{class_of, IsAnswer, StopsAt, memory}
 use Rattle.run_plan.specs.Limits.{AreWithinLimits, FitsLimit, IsLeft}
-use Rattle.run_plan.specs.Plan.{HasBegun, Step, is_finished_in, is_next, is_read_in, is_read_of, is_write_to, is_written_in, text_in}
+use Rattle.run_plan.specs.Plan.{HasBegun, Step, is_finished_in, is_next, is_read_in, is_read_of, is_write_to}
+use Rattle.run_plan.specs.Plan.{is_written_in, text_in}
 use Rattle.run_plan.specs.declared.status.Status.{Status}
 
 -- The first steps of the plan were done, the next one was not, and no later one was begun. Exactly the slots were begun

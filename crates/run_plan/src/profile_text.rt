@@ -26,8 +26,8 @@ pub fn take_profile<D: Desk>(
     ensures taken { IfOk result (IsTaken (D.state desk.old).gives (option_map (λ name. name.now) name.entry)) }
     ensures done { OnOk result (HasDone (profile_steps (option_map (λ name. name.now) name.entry)) (D.state desk.old)
         (D.state desk.new)) }
-    ensures ends { (later : List Step) → IfErr result (Ends (profile_steps (option_map (λ name. name.now) name.entry) ++ later)
-        (D.state desk.old) (D.state desk.new)) }
+    ensures ends { (later : List Step) → IfErr result (Ends
+        (profile_steps (option_map (λ name. name.now) name.entry) ++ later) (D.state desk.old) (D.state desk.new)) }
     ensures promise { IfErr result (ProfilePromise (option_map (λ name. name.now) name.entry) (D.state desk.old)
         (D.state desk.new)) }
     ensures own { IfErr result (λ status. (class_of status ≡ memory) ⊎ IsOfProfile (class_of status)) }
@@ -54,7 +54,8 @@ fn read_named<D: Desk>(alloc: Global, name: &str, desk: &mut D) -> Result<Profil
     ensures promise { IfErr result (ProfilePromise (Some name.now) (D.state desk.old) (D.state desk.new)) }
     ensures own { IfErr result (λ status. (class_of status ≡ memory) ⊎ IsOfProfile (class_of status)) }
     ensures accepted { IfErr result (λ status. (profile : ProfileValue)
-        → profile_outcome (D.state desk.old).gives (Some name.now) ≡ Some (Ok profile) → IsAnswer (class_of status) → ⊥) }
+        → profile_outcome (D.state desk.old).gives (Some name.now) ≡ Some (Ok profile)
+        → IsAnswer (class_of status) → ⊥) }
     ensures only { OnlyProfile (D.state desk.new) }
     ensures finished { Same (D.state desk.old).finished (D.state desk.new).finished }
     ensures unwritten { IsUnwritten (D.state desk.old) → IsUnwritten (D.state desk.new) }

@@ -1,6 +1,7 @@
 //! How a run ended: the status, its code and the line that tells it.
 ghost use Rattle.std.specs.Prelude.{◌≡◌, ◌++◌, IfOk, OnOk, codes, decimal};
 ghost use Rattle.tree_document.specs.Title.{escaped};
+ghost use Rattle.run_plan.specs.Running.{status_of};
 ghost use Rattle.run_plan.specs.declared.status.Status.TheVariants.{Memory};
 ghost use Rattle.run_plan.specs.Status.{code_of, fault_line, part_text, refusal_text, slot_name_of};
 ghost use Rattle.run_plan.specs.inside.Numbered.{number_text};
@@ -48,6 +49,16 @@ impl From<AllocError> for Status {
 }
 
 impl Status {
+    /// The status that an outcome is told by.
+    pub fn of(outcome: Result<(), Status>) -> Status
+        ensures { result ≡ status_of outcome }
+    {
+        match outcome {
+            Ok(()) => Status::Done,
+            Err(status) => status,
+        }
+    }
+
     /// The code that the process ends with.
     pub fn code(&self) -> u8
         ensures { result ≡ code_of self.now }

@@ -1,5 +1,6 @@
 //! The steps over the desk that a command is made of: a slot begun, read, written or finished.
-ghost use Rattle.std.specs.Prelude.{◌≡◌, ◌≢◌, ◌≤◌, ◌++◌, ◌∷◌, [], ℕ, List, true, false, length, take, IfSome, IfOk, IfErr, OnOk, OnErr};
+ghost use Rattle.std.specs.Prelude.{◌≡◌, ◌≢◌, ◌≤◌, ◌++◌, ◌∷◌, [], ℕ, List, true, false, length, take, IfSome, IfOk};
+ghost use Rattle.std.specs.Prelude.{IfErr, OnOk, OnErr};
 ghost use Rattle.frag_io.specs.declared.desk.Slot.TheVariants.{Profile, Report};
 ghost use Rattle.frag_io.specs.DeskState.{DeskState};
 ghost use Rattle.frag_io.specs.Slot.{Gains, IsRead, IsWritten, Same};

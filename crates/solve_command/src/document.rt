@@ -4,7 +4,7 @@ ghost use Rattle.std.specs.List.{flat_map};
 ghost use Rattle.frag_io.specs.declared.desk.Slot.TheVariants.{Spectra};
 ghost use Rattle.profile.specs.Profile.{greatest_peaks};
 ghost use Rattle.rank_report.specs.Report.{ending_text_of, section_text_of};
-ghost use Rattle.tree_document.specs.Document.{ending_line, section_lines, text_of};
+ghost use Rattle.tree_document.specs.Document.{IsGoodLine, ending_line, section_lines, text_of};
 ghost use Rattle.tree_document.specs.declared.document.Section.{Section};
 ghost use Rattle.run_plan.specs.Limits.{greatest_text_of};
 ghost use Rattle.mgf_reader.specs.Grammar.{Reads};
@@ -14,12 +14,12 @@ ghost use Rattle.solve_command.specs.inside.Made.{IsMade, IsMadeSection};
 ghost use Rattle.right_document.specs.SettingsOf.{solve_settings_value_of};
 
 use crate::section::section_of;
+use document_writer::{parts_make_the_spelling, write_ending, write_header, write_section};
 use mgf_reader::{MgfFault, Reader, Spectrum};
 use rank_report::{push_ending, push_section};
-use right_document::{SolveSettings, ending_is_good, ending_of};
+use right_document::{SolveSettings, ending_of};
 use run_plan::read_all;
 use std::alloc::{AllocError, Global};
-use tree_document::{parts_make_the_spelling, write_ending, write_header, write_section};
 
 /// What is made of a text: the bytes of its document and of its report, and the line that refused it, where there is
 /// one.
@@ -58,7 +58,6 @@ fn solve_spectra(
         → IsMade (solve_settings_value_of settings.now) text made.fault made.document.items made.report.items) }
 {
     parts_make_the_spelling();
-    ending_is_good(fault);
     let mut document = Vec::new(alloc);
     document.extend_from_slice(write_header())?;
     let mut report = Vec::new(alloc);
@@ -81,6 +80,7 @@ fn push_endings(
     ensures document { OnOk result
         (document.new.items ≡ document.old.items ++ text_of (ending_line (spec.ending_of fault) ∷ [])) }
     ensures report { OnOk result (report.new.items ≡ report.old.items ++ ending_text_of (spec.ending_of fault)) }
+    ensures good { OnOk result (IsGoodLine (ending_line (spec.ending_of fault))) }
 {
     let ending = ending_of(fault);
     let end_line = write_ending(alloc, &ending)?;

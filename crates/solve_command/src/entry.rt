@@ -16,7 +16,7 @@ ghost use Rattle.right_document.specs.SettingsOf.{solve_settings_value_of};
 
 use element_table::{Formula, FormulaList, a_whole_is_its_part_and_its_loss};
 use loss_graph::{GraphFault, LossGraph, build};
-use right_document::{SolveSettings, ion_error, is_formula};
+use right_document::{SolveSettings, ion_error};
 use std::alloc::{AllocError, Global};
 use subset_tree::solve_small;
 use tree_certificate::Cert;
@@ -37,7 +37,7 @@ pub fn entry_of(
     ensures candidate { IfOk result (λ entry. entry.candidate ≡ candidate.now) }
     ensures good { IfOk result (λ entry. AreGoodLines (entry_lines entry)) }
 {
-    is_formula(candidate);
+    candidate.is_formula();
     let outcome = outcome_of(alloc, lists, candidate, settings)?;
     Ok(Entry {
         candidate: *candidate,
@@ -90,9 +90,8 @@ fn best_tree(alloc: Global, built: &LossGraph) -> Result<Tree, AllocError>
     ensures bounded { IfOk result (λ tree. IsBounded built.now.graph (all_edges built.now.graph) tree.upper) }
     ensures good { IfOk result (λ tree. HasGoodLines (outcomes.Tree tree)) }
 {
-    // tell what every graph and every table is, for the proof; nothing is done
-    let _count = built.graph.edge_count();
-    let _formulas = built.formulas.items();
+    built.graph.is_graph();
+    built.formulas.are_formulas();
     a_whole_is_its_part_and_its_loss();
     let (edges, table) = solve_small(alloc, &built.graph)?;
     let _numbers = table.rows();

@@ -15,9 +15,9 @@ ghost use Rattle.right_document.specs.SettingsOf.{solve_settings_value_of};
 use crate::entry::entry_of;
 use element_table::{Formula, FormulaList};
 use mgf_reader::{Spectrum, Title};
-use right_document::{Outline, SolveSettings, candidates, read_outline};
+use right_document::{SolveSettings, candidates, read_outline};
 use std::alloc::{AllocError, Global};
-use tree_document::{Body, Entries, Entry, FormulaLists, Section, Solved};
+use tree_document::{Body, Entries, Entry, FormulaLists, Outline, Section, Solved};
 use tree_entry::{rank, ranked_entries_rise};
 
 /// The section of a spectrum.
@@ -102,6 +102,6 @@ fn are_formulas(lists: &[FormulaList])
     ensures { All (λ list. All IsFormula list.formulas) lists.now }
 {
     for list in lists {
-        let _formulas = list.formulas.items();
+        list.formulas.are_formulas();
     }
 }

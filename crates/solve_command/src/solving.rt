@@ -5,6 +5,7 @@ ghost use Rattle.frag_io.specs.declared.desk.Slot.{Slot};
 ghost use Rattle.frag_io.specs.declared.desk.Slot.TheVariants.{Report, CertOut};
 ghost use Rattle.frag_io.specs.DeskState.{DeskState};
 ghost use Rattle.frag_io.specs.Desk.{appended};
+ghost use Rattle.profile.specs.Profile.{greatest_peaks};
 ghost use Rattle.run_plan.specs.Causes.{IsUnwritten};
 ghost use Rattle.run_plan.specs.Class.{class_of, ended, IsOfProfile};
 ghost use Rattle.run_plan.specs.Plan.{Step, output_steps};
@@ -19,15 +20,13 @@ ghost use Rattle.solve_command.specs.SolvePlan.{solve_plan, solve_steps_of};
 ghost use Rattle.solve_command.specs.SolvePromise.{SolvePromise, solve_meaning};
 
 use crate::document::{Solution, solve_text};
-use element_table::Formula;
+use document_writer::parts_make_the_spelling;
 use frag_io::{Desk, Slot};
 use order_words::DocumentNames;
 use profile::Profile;
-use right_document::{SolveSettings, candidate_rules_of, fragment_rules_of, solve_settings};
+use right_document::{SolveSettings, candidate_rules_of, sieve_of, solve_settings};
 use run_plan::{DocumentSlot, Status, finish_slot, read_spectra, take_profile, write_slot};
 use std::alloc::Global;
-use tree_document::parts_make_the_spelling;
-use valence_filter::{Sieve, all_hold};
 
 /// Solves the text that a name gives into the document of another name, under the profile that is named, for ions of
 /// the adduct.
@@ -43,10 +42,7 @@ pub fn solve<D: Desk>(alloc: Global, names: &DocumentNames, desk: &mut D) -> Sta
         Ok(profile) => profile,
         Err(status) => return status,
     };
-    match solve_under(alloc, names, &profile, desk) {
-        Ok(()) => Status::Done,
-        Err(status) => status,
-    }
+    Status::of(solve_under(alloc, names, &profile, desk))
 }
 
 /// Solves under a profile.
@@ -68,18 +64,9 @@ fn solve_under<D: Desk>(
     ensures own { IsOfProfile (class_of (status_of result)) → ⊥ }
     ensures an_order { status_of result ≢ Status.Words }
 {
-    let rules = fragment_rules_of(alloc, profile, &names.adduct)?;
-    let kept = Vec::from_slice(alloc, &rules)?;
+    let sieve = sieve_of!(alloc, profile, &names.adduct);
     let candidate_rules = candidate_rules_of(alloc, profile)?;
-    let Ok(test) = Box::new(alloc, move |formula: &Formula| all_hold(&kept, formula)) else {
-        return Err(Status::Memory);
-    };
-    let settings = solve_settings(
-        profile,
-        names.adduct,
-        Sieve::new(rules, test),
-        candidate_rules,
-    );
+    let settings = solve_settings(profile, names.adduct, sieve, candidate_rules);
     solve_steps(alloc, names.spectra, names.document, &settings, desk)
 }
 
@@ -91,7 +78,7 @@ fn solve_steps<D: Desk>(
     settings: &SolveSettings,
     desk: &mut D,
 ) -> Result<(), Status>
-    requires peaks { settings.now.listing.choice.peaks ≤ 12 }
+    requires peaks { settings.now.listing.choice.peaks ≤ greatest_peaks }
     requires only { OnlyProfile (D.state desk.old) }
     requires unfinished { IsUnfinished (D.state desk.old) }
     requires unwritten { IsUnwritten (D.state desk.old) }

@@ -11,11 +11,12 @@ use Rattle.std.proofs.lemmas.Int.{ints}
 use Rattle.std.proofs.lemmas.Nat.{pow-add}
 use Rattle.colour_graph.specs.Graph.{Graph, IsGraph, colour_count, colour_of, edge_at, head_colour}
 use Rattle.tree_certificate.specs.ColourSet.{IsPartOf, place_of, without}
-use Rattle.tree_certificate.specs.Number.{AreNumbers, greatest_number, is_near}
+use Rattle.tree_certificate.specs.Number.{AreNumbers, greatest_number, is_near, number_in}
 use Rattle.tree_certificate.specs.TableHolds.{HasRow, IsHighEnough, number_of, row_at}
 use Rattle.subset_tree.specs.inside.Exact.{IsExact}
-use Rattle.subset_tree.specs.inside.Filling.{AreFilledFrom, AreGainsBefore, AreModest, IsEnough, IsFilledTo, IsHighTo}
-use Rattle.subset_tree.specs.inside.Filling.{number_in, number_to}
+use Rattle.tree_certificate.specs.Enough.{IsEnough}
+use Rattle.subset_tree.specs.inside.Filling.{AreFilledFrom, AreGainsBefore, AreModest, IsFilledTo, IsHighTo}
+use Rattle.subset_tree.specs.inside.Filling.{number_to}
 use Rattle.subset_tree.proofs.Gaining.{edge-rises}
 use Rattle.tree_certificate.proofs.SetParts.{length-part, length-without, place-lt, place-without, powers-le}
 

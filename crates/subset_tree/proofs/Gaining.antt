@@ -11,7 +11,8 @@ use Rattle.colour_graph.specs.Graph.{head_colour}
 use Rattle.tree_certificate.specs.ColourSet.{place_of}
 use Rattle.tree_certificate.specs.TableHolds.{HasRow, number_of, row_at}
 use Rattle.subset_tree.specs.inside.Filling.{AreFilledFrom, AreGains, AreGainsBefore, AreModest, IsEnoughBefore}
-use Rattle.subset_tree.specs.inside.Filling.{IsRaised, number_in}
+use Rattle.tree_certificate.specs.Enough.{IsRaised}
+use Rattle.tree_certificate.specs.Number.{number_in}
 use Rattle.tree_certificate.proofs.SetParts.{place-lt}
 
 -- a row of a table of vectors

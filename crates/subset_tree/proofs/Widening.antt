@@ -4,7 +4,9 @@ use Rattle.std.proofs.Common.{List, length, slice_set, get_or-set_other, get_or-
 use Rattle.std.proofs.lemmas.Bool.{cases_eq}
 use Rattle.std.proofs.lemmas.Int.{ints}
 use Rattle.tree_certificate.specs.ColourSet.{place_of, without}
-use Rattle.subset_tree.specs.inside.Filling.{AreGains, AreModest, IsEnough, IsRaised, number_in}
+use Rattle.tree_certificate.specs.Enough.{IsEnough, IsRaised}
+use Rattle.tree_certificate.specs.Number.{number_in}
+use Rattle.subset_tree.specs.inside.Filling.{AreGains, AreModest}
 use Rattle.tree_certificate.proofs.SetParts.{place-without}
 
 pub number_in-same : (numbers : List ℤ) (place : ℕ) (number : ℤ) → place < length numbers

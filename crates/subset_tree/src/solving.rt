@@ -34,7 +34,7 @@ pub fn solve_small(
     what_holds_bounds_every_tree();
     the_cap_bounds_every_tree();
     a_best_list_is_maximal();
-    let _edges_in_all = graph.edge_count();
+    graph.is_graph();
     let rows = fill_table(alloc, graph)?;
     let edges = read_tree(alloc, graph, &rows)?;
     Ok((edges, TableCert::new(rows).unwrap()))

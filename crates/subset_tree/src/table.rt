@@ -3,10 +3,11 @@ ghost use Rattle.std.specs.Prelude.{◌≡◌, ◌≤◌, ◌<◌, ◌+◌, ◌-
 ghost use Rattle.std.specs.Prelude.{false, IfOk, length, map};
 ghost use Rattle.colour_graph.specs.Graph.{IsGraph, colour_count, colour_of, greatest_graph};
 ghost use Rattle.subset_tree.specs.inside.Exact.{IsExact};
-ghost use Rattle.subset_tree.specs.inside.Filling.{AreFilledFrom, AreGains, AreGainsBefore, AreModest, IsEnough};
-ghost use Rattle.subset_tree.specs.inside.Filling.{IsFilledTo, IsRaised, number_in};
+ghost use Rattle.tree_certificate.specs.Enough.{IsEnough, IsRaised};
+ghost use Rattle.subset_tree.specs.inside.Filling.{AreFilledFrom, AreGains, AreGainsBefore, AreModest};
+ghost use Rattle.tree_certificate.specs.Number.{AreNumbers, number_in};
+ghost use Rattle.subset_tree.specs.inside.Filling.{IsFilledTo};
 ghost use Rattle.tree_certificate.specs.ColourSet.{place_of};
-ghost use Rattle.tree_certificate.specs.Number.{AreNumbers};
 ghost use Rattle.tree_certificate.specs.TableHolds.{greatest_colours};
 
 use colour_graph::{Colour, ColourGraph, VertexId};
@@ -23,7 +24,7 @@ pub(crate) fn fill_table(alloc: Global, graph: &ColourGraph) -> Result<Vec<Vec<i
     ensures numbers { IfOk result (λ rows. AreNumbers (map (λ row. row.items) rows.items)) }
 {
     let count = graph.vertex_count() as usize;
-    let _edges = graph.edge_count();
+    graph.is_graph();
     let mut rows: Vec<Vec<i64>> = Vec::with_capacity(alloc, count)?;
     for _ in 0..count {
         rows.push(Vec::new(alloc))?;
@@ -102,10 +103,10 @@ fn gather_gains(
     clear_gains(gains);
     let (first, past) = graph.edges_into(colour);
     let mut any = false;
-    for place in first..past {
-        let edge = graph.edge_at(place);
-        if edge.tail == vertex {
-            raise_gains(gains, edge.weight, &rows[usize::from(edge.head)]);
+    for edge in first..past {
+        let here = graph.edge_at(edge);
+        if here.tail == vertex {
+            raise_gains(gains, here.weight, &rows[usize::from(here.head)]);
             any = true;
         }
     }
@@ -163,8 +164,8 @@ fn widen(numbers: &mut [i64], gains: &[i64], any: bool)
     ensures modest { AreModest numbers.new }
     ensures kept { (place : ℕ) → place < length gains.now
         → number_in numbers.new (2 * place) ≡ number_in numbers.old place }
-    ensures grown { (set : List Bool) → place_of set < length gains.now → (upper : ℤ)
-        → (number_in numbers.new (1 + 2 * place_of set) ≤ℤ upper) ↔ IsEnough numbers.old gains.now set upper }
+    ensures grown { (set : List Bool) → place_of set < length gains.now → (candidate : ℤ)
+        → (number_in numbers.new (1 + 2 * place_of set) ≤ℤ candidate) ↔ IsEnough numbers.old gains.now set candidate }
 {
     let mut set = gains.len();
     while set > 0 {
@@ -183,8 +184,8 @@ fn least_enough(numbers: &[i64], gains: &[i64], set: usize, any: bool) -> i64
     requires gains { AreGains gains.now }
     requires none { any ≡ false → (place : ℕ) → place < length gains.now
         → number_in gains.now place ≡ negsuc 999999999 }
-    ensures enough { (colours : List Bool) → place_of colours ≡ set → (upper : ℤ)
-        → (result ≤ℤ upper) ↔ IsEnough numbers.now gains.now colours upper }
+    ensures enough { (colours : List Bool) → place_of colours ≡ set → (candidate : ℤ)
+        → (result ≤ℤ candidate) ↔ IsEnough numbers.now gains.now colours candidate }
     ensures not_below { pos 0 ≤ℤ result }
     ensures not_above { result ≤ℤ pos (100000 * (set + 1)) }
 {
@@ -201,8 +202,8 @@ fn greatest_sum(numbers: &[i64], gains: &[i64], set: usize) -> i64
     requires room { (set < length numbers.now) × (set < length gains.now) }
     requires modest { AreModest numbers.now }
     requires gains { AreGains gains.now }
-    ensures enough { (colours : List Bool) → place_of colours ≡ set → (upper : ℤ)
-        → (result ≤ℤ upper) ↔ IsEnough numbers.now gains.now colours upper }
+    ensures enough { (colours : List Bool) → place_of colours ≡ set → (candidate : ℤ)
+        → (result ≤ℤ candidate) ↔ IsEnough numbers.now gains.now colours candidate }
     ensures not_below { pos 0 ≤ℤ result }
     ensures not_above { result ≤ℤ pos (100000 * (set + 1)) }
 {

@@ -1,4 +1,5 @@
 pub mod SetParts
+pub mod PartWalk
 pub mod Sums
 pub mod Owners
 pub mod BoundValues

@@ -10,7 +10,7 @@ abbrev pub CertHolds : Graph → CertValue → ℤ → Type 0
 CertHolds graph (a_table rows) upper = TableHolds graph rows upper
 CertHolds graph (a_bound bound) upper = BoundHolds graph (all_edges graph) bound upper
 
--- how many splits a certificate has, and how many stand above its deepest prices
+-- how many splits a certificate has, and how many stand above its deepest leaf
 abbrev pub cert_splits : CertValue → ℕ
 cert_splits (a_table rows) = 0
 cert_splits (a_bound bound) = splits_of bound

@@ -4,6 +4,7 @@ pub mod BoundView
 pub mod BoundCode
 pub mod Value
 pub mod ColourSet
+pub mod Enough
 pub mod TableHolds
 pub mod PriceHolds
 pub mod BoundHolds

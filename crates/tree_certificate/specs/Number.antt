@@ -1,5 +1,5 @@
 -- The numbers of a certificate.
-use Rattle.std.specs.Prelude.{ℕ, ℤ, Bool, nat_le, unsigned_abs, IsTrue, List}
+use Rattle.std.specs.Prelude.{ℕ, ℤ, pos, Bool, nat_le, slice_index_or, unsigned_abs, IsTrue, List}
 use Rattle.std.specs.List.{list_all}
 
 -- They are at most so far from 0.
@@ -17,3 +17,7 @@ AreNumbers rows = IsTrue (list_all (λ row. list_all (is_near greatest_number) r
 -- a list of numbers that a certificate may hold
 abbrev pub AreNear : List ℤ → Type 0
 AreNear numbers = IsTrue (list_all (is_near greatest_number) numbers)
+
+-- the number at a place of a list, and 0 behind it
+abbrev pub number_in : List ℤ → ℕ → ℤ
+number_in numbers place = slice_index_or numbers place (pos 0)

@@ -1,4 +1,4 @@
-//! A bound by splits, whose ends are prices.
+//! A bound by splits, whose leaves are prices and potentials.
 ghost use Rattle.std.specs.Prelude.{◌≡◌, ◌≤◌, ◌<◌, ◌^◌};
 ghost use Rattle.tree_certificate.specs.BoundHolds.{depth_of, greatest_depth, splits_of};
 ghost use Rattle.tree_certificate.specs.BoundView.{bound_value};
@@ -6,16 +6,16 @@ ghost use Rattle.tree_certificate.specs.BoundView.{bound_value};
 use crate::prices::PriceCert;
 use sqlite_items::{Boxed, Items};
 
-/// A bound has at most so many splits above its prices.
+/// A bound has at most so many splits above a leaf.
 pub const GREATEST_DEPTH: u32 = 1_024;
 
 /// What shows that no tree of a set of edges scores more than an upper bound.
 #[derive(Debug, Drop)]
 pub enum Bound {
-    /// Prices and potentials of the set.
+    /// A leaf: prices and potentials of the set.
     Priced(PriceCert),
-    /// A colour and some of the set's edges into it, the bound of the set without the others into it, and that of the
-    /// set without these.
+    /// A split: a colour and some of the set's edges into it, the bound of the set without the others into it, and that
+    /// of the set without these.
     Split(u16, Items<u32>, Boxed<Bound>, Boxed<Bound>),
 }
 
@@ -31,7 +31,7 @@ pub fn splits(bound: &Bound) -> u64
     }
 }
 
-/// How many splits stand above the deepest prices of a bound.
+/// How many splits stand above the deepest leaf of a bound.
 pub fn depth(bound: &Bound) -> u32
     requires depth { depth_of (bound_value bound.now) ≤ greatest_depth }
     ensures { result ≡ depth_of (bound_value bound.now) }

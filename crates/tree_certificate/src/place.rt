@@ -1,6 +1,6 @@
 //! Where a certificate fails.
 
-/// The first place where a certificate fails, in the order of looking. The prices and splits of a bound are its nodes,
+/// The first place where a certificate fails, in the order of looking. The leaves and splits of a bound are its nodes,
 /// numbered from 0: a split before its sides, and the first side before the second.
 #[derive(Clone, Copy, Debug, PartialEq, Eq)]
 pub enum Place {
@@ -16,13 +16,13 @@ pub enum Place {
     SplitColour(u32, u16),
     /// The split of this node does not name, in rising order, some but not all of the edges of its set into its colour.
     SplitEdges(u32),
-    /// The numbers of prices or of potentials of this node are not the graph's.
+    /// The numbers of prices or of potentials of this leaf, by its node, are not the graph's.
     PriceShape(u32),
-    /// Among the prices of a node, that of this colour is the first below 0.
+    /// Among the prices of a leaf, by its node, that of this colour is the first below 0.
     PriceNegative(u32, u16),
-    /// Among the potentials of a node, that of this vertex is the first that is lower than it needs to be: what it is,
-    /// and what it is to be at least.
+    /// Among the potentials of a leaf, by its node, that of this vertex is the first that is lower than it needs to be:
+    /// what it is, and what it is to be at least.
     PotentialLow(u32, u32, i64, i64),
-    /// The prices of a node say that its set is worth so much, above the upper bound.
+    /// The total of this leaf, by its node, is so much, above the upper bound.
     LeafTotal(u32, i64),
 }

@@ -1,6 +1,6 @@
 pub mod Value
 pub mod Title
 pub mod Line
+pub mod Outline
 pub mod Document
 pub mod Reading
-pub mod inside

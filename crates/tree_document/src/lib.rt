@@ -1,29 +1,15 @@
-//! Documents of fragmentation trees and their certificates: what they hold, their one spelling, and reading it back.
+//! Documents of fragmentation trees and their certificates: what they hold, their lines, their one spelling, and what
+//! bytes read as. The text of a title is here; the rest is written by `document_writer` and read by `document_reader`.
 #![tactic(auto)]
 
-mod appending;
-mod bound_lines;
-mod bound_writer;
-mod cut;
 mod document;
 mod entry;
 mod fault;
-mod fields;
-mod heads;
-mod laws;
-mod lines;
-mod numbers;
-mod ranges;
-mod reader;
-mod reading;
-mod stop;
+mod outline;
 mod title;
-mod writer;
 
-pub use appending::{push_done, push_escaped, push_lists, push_skip, push_spectrum};
 pub use document::{Body, Document, Ending, FormulaLists, MgfEnd, Section, Sections, Skip, Solved};
 pub use entry::{Entries, Entry, Mark, Outcome, Tree, TreeRow, TreeRows};
 pub use fault::{CertFault, DocumentError};
-pub use laws::{bytes_read_one_way, parts_make_the_spelling};
-pub use reading::read_document;
-pub use writer::{write_ending, write_header, write_section};
+pub use outline::Outline;
+pub use title::{push_escaped, push_spelling};

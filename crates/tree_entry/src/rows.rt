@@ -22,8 +22,7 @@ pub fn tree_rows(
     ensures rows { IfOk result (λ rows. AreRows built.now rows.items) }
     ensures edges { IfOk result (λ rows. edges_of rows.items ≡ edges.now) }
 {
-    // tells what every graph is, for the proof; nothing is done
-    let _count = built.graph.edge_count();
+    built.graph.is_graph();
     let mut rows = Vec::new(alloc);
     for edge in edges {
         let row = row_of(built, &rows, *edge);

@@ -7,7 +7,7 @@ use Rattle.colour_graph.specs.EdgeSet.{is_allowed}
 use Rattle.colour_graph.specs.Graph.{Graph, edge_at, head_colour}
 use Rattle.tree_certificate.specs.BoundValue.{PriceValue}
 use Rattle.tree_certificate.specs.PriceHolds.{gain_by, gain_of}
-use Rattle.certificate_checker.specs.inside.Enough.{number_in}
+use Rattle.tree_certificate.specs.Number.{number_in}
 
 -- what an edge may gain
 pub record IsEdgeGain (gain : ℤ) : Type 0 where

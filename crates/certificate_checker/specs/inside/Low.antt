@@ -5,7 +5,9 @@ use Rattle.colour_graph.specs.Graph.{Graph}
 use Rattle.tree_certificate.specs.TableHolds.{IsHighAt, IsHighEnough, number_at, number_of, place_in, row_length}
 use Rattle.certificate_checker.specs.Places.{IsNeeded}
 use Rattle.tree_certificate.specs.ColourSet.{place_of}
-use Rattle.certificate_checker.specs.inside.Enough.{IsEnough, IsLeastEnough, number_in}
+use Rattle.tree_certificate.specs.Enough.{IsEnough}
+use Rattle.tree_certificate.specs.Number.{number_in}
+use Rattle.certificate_checker.specs.inside.Enough.{IsLeastEnough}
 use Rattle.certificate_checker.specs.declared.low.Low.{Low}
 
 -- Of the numbers of a row for one colour and a set of the colours behind it, by the place of the set: the first that is

@@ -17,7 +17,7 @@ use Rattle.tree_document.specs.declared.entry.Outcome.{Outcome}
 use Rattle.tree_document.specs.declared.entry.Outcome.TheVariants as outcome
 use Rattle.tree_entry.specs.EntryIsRight.{EntryIsRight}
 use Rattle.right_document.specs.OneEach.{OneEach}
-use Rattle.right_document.specs.Outline.{OutlineValue}
+use Rattle.tree_document.specs.Outline.{OutlineValue}
 use Rattle.right_document.specs.Outlined.{IsOutlined, Outlined}
 use Rattle.right_document.specs.RightSection.{BodyIsRight, OutcomeIsRight, SectionIsRight, SizeIsRight, SolvedIsRight}
 use Rattle.right_document.specs.SolveSettings.{SolveSettingsValue}

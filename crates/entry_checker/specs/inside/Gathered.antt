@@ -5,7 +5,7 @@ use Rattle.std.specs.Option.{MatchOption}
 use Rattle.colour_graph.specs.Graph.{Graph}
 use Rattle.tree_certificate.specs.BoundValue.{BoundValue, priced, split}
 use Rattle.tree_certificate.specs.PriceHolds.{AreNotNegative, FitsPrices}
-use Rattle.tree_certificate.specs.Spent.{CanGoOn, Fork, IsTight, IsUseful, Leaf}
+use Rattle.tree_certificate.specs.Spent.{CanGoOn, SplitNode, IsTight, IsUseful, Leaf}
 use Rattle.entry_checker.specs.GapPlaces.{IsFirstNode}
 use Rattle.entry_checker.specs.declared.gap.Found.{Found}
 
@@ -25,8 +25,8 @@ found_with None true node = None
 found_with None false node = Some node
 
 -- what was found among these leaves and splits
-pub record Gathered (graph : Graph) (score upper : ℤ) (leaves : List Leaf) (forks : List Fork)
+pub record Gathered (graph : Graph) (score upper : ℤ) (leaves : List Leaf) (splits : List SplitNode)
     (found : Found) : Type 0 where
   pub slack : IsFound (λ leaf. leaf.node) (IsTight graph) leaves found.first_slack
-  pub wasted : IsFound (λ fork. fork.node) (IsUseful graph upper) forks found.first_wasted
+  pub wasted : IsFound (λ split_node. split_node.node) (IsUseful graph upper) splits found.first_wasted
   pub decided : IsFound (λ leaf. leaf.node) (CanGoOn graph score) leaves found.first_decided

@@ -1,15 +1,12 @@
 -- Potentials while they are made, the greatest colours first: what each vertex gains by the colours above one.
 use Rattle.std.specs.Prelude.{◌≡◌, ◌<◌, ◌≤◌, ◌+◌, ◌-◌, ◌↔◌, ℕ, ℤ, pos, ◌+ℤ◌, ◌-ℤ◌, ◌≤ℤ◌, ◌<ℤ◌, Bool, List, length, map}
-use Rattle.std.specs.Prelude.{slice_index_or}
 use Rattle.std.specs.List.{range_with_len}
 use Rattle.colour_graph.specs.Cap.{greatest}
 use Rattle.colour_graph.specs.Colourful.{total}
 use Rattle.colour_graph.specs.Graph.{Graph, colour_count, edge_at}
 use Rattle.tree_certificate.specs.BoundValue.{PriceValue}
+use Rattle.tree_certificate.specs.Number.{number_in}
 use Rattle.tree_certificate.specs.PriceHolds.{edges_between, gain_of, potential_of}
-
-abbrev pub number_in : List ℤ → ℕ → ℤ
-number_in numbers place = slice_index_or numbers place (pos 0)
 
 abbrev pub cert_with : List ℤ → List ℤ → PriceValue
 cert_with prices potentials = record { prices = prices; potentials = potentials }
@@ -35,7 +32,8 @@ AreClear numbers = (place : ℕ) → number_in numbers place ≡ pos 0
 
 -- A number is the greater of two.
 abbrev pub IsGreater : ℤ → ℤ → ℤ → Type 0
-IsGreater more most number = (upper : ℤ) → (more ≤ℤ upper) ↔ ((most ≤ℤ upper) × (number ≤ℤ upper))
+IsGreater more most number =
+    (candidate : ℤ) → (more ≤ℤ candidate) ↔ ((most ≤ℤ candidate) × (number ≤ℤ candidate))
 
 -- what is gained by an edge at a price
 abbrev pub gain_with : Graph → ℤ → List ℤ → ℕ → ℤ

@@ -5,7 +5,7 @@ use Rattle.colour_graph.specs.Graph.{greatest_graph}
 use Rattle.price_bound.specs.declared.packed.Group.{Group}
 use Rattle.price_bound.specs.declared.packed.Packed.{Packed}
 use Rattle.price_bound.specs.declared.packed.Scaled.{Scaled}
-use Rattle.price_bound.specs.inside.Exact.{number_in}
+use Rattle.tree_certificate.specs.Number.{number_in}
 
 -- an edge between two of so many vertices
 pub record IsScaled (vertices : ℕ) (edge : Scaled) : Type 0 where

@@ -7,8 +7,8 @@ use Rattle.tree_certificate.proofs.BoundValues.{depth_of_split, splits_of_split}
 use Rattle.certificate_checker.specs.BoundPlaces.{IsBoundPlace, IsVerdictFrom}
 use Rattle.certificate_checker.specs.declared.verdict.Verdict.TheVariants.{Fails, Holds}
 use Rattle.certificate_checker.specs.inside.Sides.{adding}
-use Rattle.certificate_checker.proofs.BoundVerdicts.{behind-in_range, first-undone, said-at, value_split, verdict-first}
-use Rattle.certificate_checker.proofs.BoundVerdicts.{verdict-second}
+use Rattle.certificate_checker.proofs.BoundVerdicts.{behind-in_range, first-taken, first-undone, said-at, value_split}
+use Rattle.certificate_checker.proofs.BoundVerdicts.{verdict-first, verdict-second}
 use Rattle.certificate_checker.proofs.SplitSides.{leaving-undone, length-leaving, length-only, split-in_range}
 use Rattle.certificate_checker.proofs.bound.+check_node.Goals as goal
 
@@ -77,6 +77,13 @@ returns-in-Fails-clause-set t c =
     c.args.taken.now.items c.check_node.new.taken.items c.requires.set
     (c.in_ok-side-in-Split.ensures.set ∙ c.in_ok-keep_only-in-Split.ensures.only) before_is
     (c.in_ok-side-in-Split.ensures.taken ∙ c.in_ok-keep_only-in-Split.ensures.taken) c.give_back.ensures.given
+
+pub returns-in-Fails-clause-taken : goal.returns-in-Fails-clause-taken
+returns-in-Fails-clause-taken t c =
+    let before_is : c.len-before.result ≡ length c.args.taken.now.items =
+    omega (arith, c.len-before.ensures, c.args.taken.now.ok.0) in
+    first-taken c.args.taken.now.items _ c.check_node.new.taken.items c.give_back.new.taken.items c.len-before.result
+    before_is (c.in_ok-side-in-Split.ensures.taken ∙ c.in_ok-keep_only-in-Split.ensures.taken) c.give_back.ensures.left
 
 pub take_part-requires : goal.take_part-requires
 take_part-requires t c =
@@ -216,3 +223,11 @@ returns-in_ok-side-in-Split-2-clause-set t c =
     ∙ ap (λ set. adding set part) (c.in_ok-side-in-Split-2.ensures.set ∙ c.take_part.ensures
     ∙ ap (λ set. leaving set part) same)
     ∙ leaving-undone graph allowed c.in-Split.colour part is_split
+
+pub returns-in_ok-side-in-Split-2-clause-taken : goal.returns-in_ok-side-in-Split-2-clause-taken
+returns-in_ok-side-in-Split-2-clause-taken t c =
+    let before_is : c.len-before.result ≡ length c.args.taken.now.items =
+    omega (arith, c.len-before.ensures, c.args.taken.now.ok.0) in
+    c.in_ok-side-in-Split-2.ensures.taken
+    ∙ first-taken c.args.taken.now.items _ c.check_node.new.taken.items c.give_back.new.taken.items c.len-before.result
+    before_is (c.in_ok-side-in-Split.ensures.taken ∙ c.in_ok-keep_only-in-Split.ensures.taken) c.give_back.ensures.left

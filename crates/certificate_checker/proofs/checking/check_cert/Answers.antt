@@ -23,7 +23,7 @@ returns-in-Table-clause-bounded c =
     (λ verdict. IsVerdict c.args.graph.now (cert_of c.args.cert.now) c.args.upper verdict) =
     first_of (search rules, grind (arith, common_steps)) in
     λ is. c.what_holds_bounds_every_tree.ensures c.args.graph.now
-    (cert_of c.args.cert.now) c.args.upper c.edge_count-edges.ensures.is_graph
+    (cert_of c.args.cert.now) c.args.upper c.is_graph.ensures
     (IfOk-at_ok (λ verdict. IsVerdict c.args.graph.now (cert_of c.args.cert.now) c.args.upper verdict) is verdict)
 
 pub returns-in-Bounds-clause-bounded : goal.returns-in-Bounds-clause-bounded
@@ -33,6 +33,6 @@ returns-in-Bounds-clause-bounded c =
     (λ verdict. (verdict ≡ Holds) ↔ BoundHolds c.args.graph.now (all_edges c.args.graph.now) bound c.args.upper) =
     first_of (search rules, grind (arith, common_steps)) in
     λ is. c.what_holds_bounds_every_tree.ensures c.args.graph.now
-    (a_bound bound) c.args.upper c.edge_count-edges.ensures.is_graph
+    (a_bound bound) c.args.upper c.is_graph.ensures
     ((IfOk-at_ok (λ verdict. (verdict ≡ Holds)
     ↔ BoundHolds c.args.graph.now (all_edges c.args.graph.now) bound c.args.upper) is exactly).0 refl)

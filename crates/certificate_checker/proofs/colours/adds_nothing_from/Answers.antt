@@ -1,7 +1,7 @@
 use Rattle.std.proofs.Common.{◌-◌, ◌<◌, ℕ, length, arith, w64}
 use Rattle.std.proofs.lemmas.Int.{to_z-of_z}
-use Rattle.certificate_checker.specs.inside.Enough.{number_in}
-use Rattle.certificate_checker.proofs.PartWalk.{SFits-gain, SFits-number}
+use Rattle.tree_certificate.specs.Number.{number_in}
+use Rattle.certificate_checker.proofs.Fits.{SFits-gain, SFits-number}
 use Rattle.certificate_checker.proofs.UsefulColours.{adds_nothing-more}
 use Rattle.certificate_checker.proofs.colours.adds_nothing_from.Goals as goal
 

@@ -2,8 +2,8 @@ use Rattle.std.proofs.Common.{◌≡◌, ◌∙◌, ◌*◌, ◌<◌, ℕ, lengt
 use Rattle.std.proofs.Math.ListN.{length-set}
 use Rattle.std.proofs.Math.Nat.{mul-lt-mul_of_pos_left}
 use Rattle.std.proofs.lemmas.Int.{to_z-of_z}
-use Rattle.certificate_checker.specs.inside.Enough.{number_in}
-use Rattle.certificate_checker.proofs.PartWalk.{SFits-number}
+use Rattle.tree_certificate.specs.Number.{number_in}
+use Rattle.certificate_checker.proofs.Fits.{SFits-number}
 use Rattle.certificate_checker.proofs.Raising.{copied-more}
 use Rattle.certificate_checker.proofs.gains.copy_numbers.Goals as goal
 

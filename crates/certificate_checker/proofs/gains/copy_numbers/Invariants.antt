@@ -1,5 +1,5 @@
 use Rattle.std.proofs.Common.{◌≡◌, ◌<◌, ◌*◌, ℕ, length}
-use Rattle.certificate_checker.specs.inside.Enough.{number_in}
+use Rattle.tree_certificate.specs.Number.{number_in}
 use Rattle.certificate_checker.proofs.gains.copy_numbers.Given as goal
 
 abbrev pub invariant-loop-place : goal.invariant-loop-place

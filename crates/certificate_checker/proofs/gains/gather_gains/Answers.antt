@@ -5,16 +5,18 @@ use Rattle.std.proofs.lemmas.Int.{to_z-of_z}
 use Rattle.colour_graph.specs.EdgeSet.{AreInto}
 use Rattle.colour_graph.specs.declared.edge.Edge.{Edge}
 use Rattle.colour_graph.specs.Graph.{Graph, IsEdge, IsScore, colour_count, colour_of, edge_at, head_colour}
-use Rattle.tree_certificate.specs.Number.{AreNumbers}
+use Rattle.tree_certificate.specs.Number.{AreNumbers, number_in}
 use Rattle.tree_certificate.specs.TableHolds.{FitsGraph, row_at}
-use Rattle.certificate_checker.specs.inside.Enough.{AreNumbersBelow, IsRaised, number_in}
-use Rattle.certificate_checker.proofs.PartWalk.{SFits-score, raised-as}
+use Rattle.tree_certificate.specs.Enough.{IsRaised}
+use Rattle.certificate_checker.specs.inside.Enough.{AreNumbersBelow}
+use Rattle.certificate_checker.proofs.Fits.{SFits-score}
+use Rattle.tree_certificate.proofs.PartWalk.{raised-as}
 use Rattle.certificate_checker.proofs.Raising.{cleared, cleared-none, gain-set, gains-first, gains-last, gains-with}
 use Rattle.certificate_checker.proofs.Raising.{gains-without, raised-cleared}
 use Rattle.certificate_checker.proofs.TableNumbers.{numbers-row, row-few}
 use Rattle.certificate_checker.proofs.gains.gather_gains.Goals as goal
-use Rattle.certificate_checker.proofs.gains.gather_gains.Goals.{then-edge-vertex+then-any, then-edge-vertex+else-any}
-use Rattle.certificate_checker.proofs.gains.gather_gains.Goals.{else-edge-vertex}
+use Rattle.certificate_checker.proofs.gains.gather_gains.Goals.{then-here-vertex+then-any, then-here-vertex+else-any}
+use Rattle.certificate_checker.proofs.gains.gather_gains.Goals.{else-here-vertex}
 
 -- what is known of an edge into a colour and of the numbers of its head
 record IsHead (graph : Graph) (rows : List (List ℤ)) (colour place count : ℕ) (edge : Edge)
@@ -56,8 +58,8 @@ head_is graph rows colour first past place from count edge numbers fits are into
     row_is : numbers ≡ row_at rows edge.head
     row_is = numbers_is ∙ ap (λ v. row_at rows v) from_is
 
-pub loop-place-init : goal.loop-place-init
-loop-place-init c = record {
+pub loop-edge-init : goal.loop-edge-init
+loop-edge-init c = record {
   long = refl;
   gained = λ is. absurd (false≢true is);
   none = λ is clear none. gains-first c.args.graph.now _ c.args.vertex c.args.colour c.edges_into-first.result.0
@@ -68,79 +70,79 @@ loop-place-init c = record {
 pub raise_gains-requires : goal.raise_gains-requires
 raise_gains-requires c =
     let head = head_is c.args.graph.now (map (λ row. row.items) c.args.rows.now) c.args.colour
-    c.edges_into-first.result.0 c.edges_into-first.result.1 c.loop-place.place c.from.result
-    (length c.args.gains.now) c.edge_at-edge.result c.numbers_of-numbers.result.now c.requires.fits c.requires.numbers
-    c.edges_into-first.ensures c.loop-place.auto.place c.loop-place-test.true
-    c.edge_at-edge.ensures.edge c.edge_at-edge.ensures.is_edge c.requires.room c.from.ensures
+    c.edges_into-first.result.0 c.edges_into-first.result.1 c.loop-edge.edge c.from.result
+    (length c.args.gains.now) c.edge_at-here.result c.numbers_of-numbers.result.now c.requires.fits c.requires.numbers
+    c.edges_into-first.ensures c.loop-edge.auto.edge c.loop-edge-test.true
+    c.edge_at-here.ensures.edge c.edge_at-here.ensures.is_edge c.requires.room c.from.ensures
     c.numbers_of-numbers.ensures in
     record {
-      weight = rw (to_z-of_z w32 c.edge_at-edge.result.weight (SFits-score c.edge_at-edge.result.weight head.score))
+      weight = rw (to_z-of_z w32 c.edge_at-here.result.weight (SFits-score c.edge_at-here.result.weight head.score))
           head.score;
       numbers = head.near;
       few = head.few;
-      room = head.long ∙ sym c.loop-place.invariant.long;
-      gains = rw c.loop-place.invariant.long (c.loop-place.invariant.gained c.if-any.true).near;
+      room = head.long ∙ sym c.loop-edge.invariant.long;
+      gains = rw c.loop-edge.invariant.long (c.loop-edge.invariant.gained c.if-any.true).near;
     }
 
 pub set_gains-requires : goal.set_gains-requires
 set_gains-requires c =
     let head = head_is c.args.graph.now (map (λ row. row.items) c.args.rows.now) c.args.colour
-    c.edges_into-first.result.0 c.edges_into-first.result.1 c.loop-place.place c.from.result
-    (length c.args.gains.now) c.edge_at-edge.result c.numbers_of-numbers.result.now c.requires.fits c.requires.numbers
-    c.edges_into-first.ensures c.loop-place.auto.place c.loop-place-test.true
-    c.edge_at-edge.ensures.edge c.edge_at-edge.ensures.is_edge c.requires.room c.from.ensures
+    c.edges_into-first.result.0 c.edges_into-first.result.1 c.loop-edge.edge c.from.result
+    (length c.args.gains.now) c.edge_at-here.result c.numbers_of-numbers.result.now c.requires.fits c.requires.numbers
+    c.edges_into-first.ensures c.loop-edge.auto.edge c.loop-edge-test.true
+    c.edge_at-here.ensures.edge c.edge_at-here.ensures.is_edge c.requires.room c.from.ensures
     c.numbers_of-numbers.ensures in
     record {
-      weight = rw (to_z-of_z w32 c.edge_at-edge.result.weight (SFits-score c.edge_at-edge.result.weight head.score))
+      weight = rw (to_z-of_z w32 c.edge_at-here.result.weight (SFits-score c.edge_at-here.result.weight head.score))
           head.score;
       numbers = head.near;
       few = head.few;
-      room = head.long ∙ sym c.loop-place.invariant.long;
+      room = head.long ∙ sym c.loop-edge.invariant.long;
     }
 
-pub loop-place-preserved : goal.loop-place-preserved
-loop-place-preserved c =
+pub loop-edge-preserved : goal.loop-edge-preserved
+loop-edge-preserved c =
     let graph = c.args.graph.now in
     let rows = map (λ row. row.items) c.args.rows.now in
-    let place = c.loop-place.place in
+    let place = c.loop-edge.edge in
     let count = length c.args.gains.now in
-    let known = c.loop-place.invariant in
-    let weight : ℤ = c.edge_at-edge.result.weight in
-    elim c.if-edge-vertex.branch [
-      | then-edge-vertex+then-any w ↦
+    let known = c.loop-edge.invariant in
+    let weight : ℤ = c.edge_at-here.result.weight in
+    elim c.if-here-vertex.branch [
+      | then-here-vertex+then-any w ↦
           let head = head_is c.args.graph.now
           (map (λ row. row.items) c.args.rows.now) c.args.colour c.edges_into-first.result.0
-          c.edges_into-first.result.1 c.loop-place.place w.from.result
-          (length c.args.gains.now) c.edge_at-edge.result w.numbers_of-numbers.result.now c.requires.fits
-          c.requires.numbers c.edges_into-first.ensures c.loop-place.auto.place c.loop-place-test.true
-          c.edge_at-edge.ensures.edge c.edge_at-edge.ensures.is_edge c.requires.room w.from.ensures
+          c.edges_into-first.result.1 c.loop-edge.edge w.from.result
+          (length c.args.gains.now) c.edge_at-here.result w.numbers_of-numbers.result.now c.requires.fits
+          c.requires.numbers c.edges_into-first.ensures c.loop-edge.auto.edge c.loop-edge-test.true
+          c.edge_at-here.ensures.edge c.edge_at-here.ensures.is_edge c.requires.room w.from.ensures
           w.numbers_of-numbers.ensures in
           let tail_is : (edge_at graph place).tail ≡ c.args.vertex =
-          sym (ap (λ (e : Edge). e.tail) c.edge_at-edge.ensures.edge) ∙ w.if-edge-vertex.true in
+          sym (ap (λ (e : Edge). e.tail) c.edge_at-here.ensures.edge) ∙ w.if-here-vertex.true in
           let weight_is = to_z-of_z w32 weight (SFits-score weight head.score) ∙ head.weight_is in
           let raised : (p : ℕ) → p < count
-          → IsRaised (number_in w.raise_gains.new.gains p) (number_in c.loop-place.gains p) (edge_at graph place).weight
+          → IsRaised (number_in w.raise_gains.new.gains p) (number_in c.loop-edge.gains p) (edge_at graph place).weight
           (number_in (row_at rows (edge_at graph place).head) p) =
           λ p within. raised-as _ _ _ _ _ _ _ _ refl refl weight_is
           (ap (λ (r : List ℤ). number_in r p) head.numbers_are)
           (w.raise_gains.ensures.raised p (omega (arith, known.long, within))) in
           rw w.gains-is (record {
             long = w.raise_gains.ensures.length ∙ known.long;
-            gained = λ is. gains-with graph rows c.args.vertex c.args.colour place count c.loop-place.gains
+            gained = λ is. gains-with graph rows c.args.vertex c.args.colour place count c.loop-edge.gains
                 w.raise_gains.new.gains tail_is head.there (known.gained w.if-any.true)
                 (rw known.long at w.raise_gains.ensures.gains) raised;
             none = λ is. absurd (true≢false (sym w.any-is ∙ is));
           })
-      | then-edge-vertex+else-any w ↦
+      | then-here-vertex+else-any w ↦
           let head = head_is c.args.graph.now
           (map (λ row. row.items) c.args.rows.now) c.args.colour c.edges_into-first.result.0
-          c.edges_into-first.result.1 c.loop-place.place w.from.result
-          (length c.args.gains.now) c.edge_at-edge.result w.numbers_of-numbers.result.now c.requires.fits
-          c.requires.numbers c.edges_into-first.ensures c.loop-place.auto.place c.loop-place-test.true
-          c.edge_at-edge.ensures.edge c.edge_at-edge.ensures.is_edge c.requires.room w.from.ensures
+          c.edges_into-first.result.1 c.loop-edge.edge w.from.result
+          (length c.args.gains.now) c.edge_at-here.result w.numbers_of-numbers.result.now c.requires.fits
+          c.requires.numbers c.edges_into-first.ensures c.loop-edge.auto.edge c.loop-edge-test.true
+          c.edge_at-here.ensures.edge c.edge_at-here.ensures.is_edge c.requires.room w.from.ensures
           w.numbers_of-numbers.ensures in
           let tail_is : (edge_at graph place).tail ≡ c.args.vertex =
-          sym (ap (λ (e : Edge). e.tail) c.edge_at-edge.ensures.edge) ∙ w.if-edge-vertex.true in
+          sym (ap (λ (e : Edge). e.tail) c.edge_at-here.ensures.edge) ∙ w.if-here-vertex.true in
           let weight_is = to_z-of_z w32 weight (SFits-score weight head.score) in
           let numbers : List ℤ = w.numbers_of-numbers.result.now in
           let set_is : (p : ℕ) → p < count → number_in w.set_gains.new.gains p ≡ weight +ℤ number_in numbers p =
@@ -162,12 +164,12 @@ loop-place-preserved c =
                 (head.near p (omega (arith, head.long, within))) (set_is p within)) raised;
             none = λ is. absurd (true≢false (sym w.any-is ∙ is));
           })
-      | else-edge-vertex w ↦
+      | else-here-vertex w ↦
           let apart : (edge_at graph place).tail ≢ c.args.vertex =
-          λ is. w.if-edge-vertex.false (ap (λ (e : Edge). e.tail) c.edge_at-edge.ensures.edge ∙ is) in
+          λ is. w.if-here-vertex.false (ap (λ (e : Edge). e.tail) c.edge_at-here.ensures.edge ∙ is) in
           rw w.gains-is (record {
             long = known.long;
-            gained = λ is. gains-without graph rows c.args.vertex c.args.colour place count c.loop-place.gains apart
+            gained = λ is. gains-without graph rows c.args.vertex c.args.colour place count c.loop-edge.gains apart
                 (known.gained (sym w.any-is ∙ is));
             none = λ is clear none. gains-without graph rows c.args.vertex c.args.colour place count clear apart
                 (known.none (sym w.any-is ∙ is) clear none);
@@ -176,24 +178,24 @@ loop-place-preserved c =
 
 pub returns-then-not-any : goal.returns-then-not-any
 returns-then-not-any c =
-    let last : c.loop-place.place ≡ c.edges_into-first.result.1 = omega (arith, c.edges_into-first.ensures.in_order) in
+    let last : c.loop-edge.edge ≡ c.edges_into-first.result.1 = omega (arith, c.edges_into-first.ensures.in_order) in
     record {
-      room = c.clear_gains.ensures.length ∙ c.loop-place.invariant.long;
+      room = c.clear_gains.ensures.length ∙ c.loop-edge.invariant.long;
       gains = gains-last c.args.graph.now _ c.args.vertex c.args.colour c.edges_into-first.result.0
           c.edges_into-first.result.1 (length c.args.gains.now) c.clear_gains.new.gains
           c.edges_into-first.ensures (rw last at
-          (c.loop-place.invariant.none c.if-not-any.true _
-          (rw c.loop-place.invariant.long at c.clear_gains.ensures.clear)));
-      none = λ is. rw c.loop-place.invariant.long at c.clear_gains.ensures.clear;
+          (c.loop-edge.invariant.none c.if-not-any.true _
+          (rw c.loop-edge.invariant.long at c.clear_gains.ensures.clear)));
+      none = λ is. rw c.loop-edge.invariant.long at c.clear_gains.ensures.clear;
     }
 
 pub returns-else-not-any : goal.returns-else-not-any
 returns-else-not-any c =
-    let last : c.loop-place.place ≡ c.edges_into-first.result.1 = omega (arith, c.edges_into-first.ensures.in_order) in
+    let last : c.loop-edge.edge ≡ c.edges_into-first.result.1 = omega (arith, c.edges_into-first.ensures.in_order) in
     record {
-      room = c.loop-place.invariant.long;
+      room = c.loop-edge.invariant.long;
       gains = gains-last c.args.graph.now _ c.args.vertex c.args.colour c.edges_into-first.result.0
-          c.edges_into-first.result.1 (length c.args.gains.now) c.loop-place.gains
-          c.edges_into-first.ensures (rw last at (c.loop-place.invariant.gained c.if-not-any.false));
+          c.edges_into-first.result.1 (length c.args.gains.now) c.loop-edge.gains
+          c.edges_into-first.ensures (rw last at (c.loop-edge.invariant.gained c.if-not-any.false));
       none = λ is. absurd (true≢false (sym c.if-not-any.false ∙ is));
     }

@@ -1,8 +1,11 @@
 use Rattle.std.proofs.Common.{◌<◌, ℤ, length, arith, refl, w32, w64, ◌∙◌}
 use Rattle.std.proofs.Math.ListN.{length-set, set}
 use Rattle.std.proofs.lemmas.Int.{to_z-of_z}
-use Rattle.certificate_checker.specs.inside.Enough.{AreGainsBelow, IsRaised, number_in}
-use Rattle.certificate_checker.proofs.PartWalk.{SFits-gain, SFits-number, raised-as}
+use Rattle.tree_certificate.specs.Enough.{IsRaised}
+use Rattle.tree_certificate.specs.Number.{number_in}
+use Rattle.certificate_checker.specs.inside.Enough.{AreGainsBelow}
+use Rattle.certificate_checker.proofs.Fits.{SFits-gain, SFits-number}
+use Rattle.tree_certificate.proofs.PartWalk.{raised-as}
 use Rattle.certificate_checker.proofs.Raising.{gains-more, raised-more, rest-more}
 use Rattle.certificate_checker.proofs.gains.raise_gains.Goals as goal
 

@@ -1,5 +1,7 @@
 use Rattle.std.proofs.Common.{◌≡◌, ◌≤◌, ◌<◌, ℕ, length}
-use Rattle.certificate_checker.specs.inside.Enough.{AreGainsBelow, IsRaised, number_in}
+use Rattle.tree_certificate.specs.Enough.{IsRaised}
+use Rattle.tree_certificate.specs.Number.{number_in}
+use Rattle.certificate_checker.specs.inside.Enough.{AreGainsBelow}
 use Rattle.certificate_checker.proofs.gains.raise_gains.Given as goal
 
 abbrev pub invariant-loop-place : goal.invariant-loop-place

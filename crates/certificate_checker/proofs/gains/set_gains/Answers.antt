@@ -1,8 +1,8 @@
 use Rattle.std.proofs.Common.{◌≡◌, ◌∙◌, ◌<◌, ℤ, ◌+ℤ◌, length, ap, arith, of_z, to_z, w32, w64}
 use Rattle.std.proofs.Math.ListN.{length-set}
 use Rattle.std.proofs.lemmas.Int.{to_z-of_z}
-use Rattle.certificate_checker.specs.inside.Enough.{number_in}
-use Rattle.certificate_checker.proofs.PartWalk.{SFits-number, SFits-total}
+use Rattle.tree_certificate.specs.Number.{number_in}
+use Rattle.certificate_checker.proofs.Fits.{SFits-number, SFits-total}
 use Rattle.certificate_checker.proofs.Raising.{set-more}
 use Rattle.certificate_checker.proofs.gains.set_gains.Goals as goal
 

@@ -1,5 +1,5 @@
 use Rattle.std.proofs.Common.{◌≡◌, ◌<◌, ℕ, ◌+ℤ◌, length}
-use Rattle.certificate_checker.specs.inside.Enough.{number_in}
+use Rattle.tree_certificate.specs.Number.{number_in}
 use Rattle.certificate_checker.proofs.gains.set_gains.Given as goal
 
 abbrev pub invariant-loop-place : goal.invariant-loop-place

@@ -4,17 +4,17 @@ use Rattle.certificate_checker.proofs.needed.gather_needed.Goals as goal
 
 pub overflow_cast-colour : goal.overflow_cast-colour
 overflow_cast-colour c =
-    let few = few_colours c.args.graph.now c.edge_count-count.ensures.is_graph.colours c.requires.vertices in
+    let few = few_colours c.args.graph.now c.is_graph.ensures.colours c.requires.vertices in
     omega (arith, few, c.colour_count-before-end.ensures)
 
 pub overflow_add-colour : goal.overflow_add-colour
 overflow_add-colour c =
-    let few = few_colours c.args.graph.now c.edge_count-count.ensures.is_graph.colours c.requires.vertices in
+    let few = few_colours c.args.graph.now c.is_graph.ensures.colours c.requires.vertices in
     omega (arith, few, c.colour_count-before-end.ensures)
 
 pub add_gains-requires-clause-few : goal.add_gains-requires-clause-few
 add_gains-requires-clause-few c =
-    let few = few_colours c.args.graph.now c.edge_count-count.ensures.is_graph.colours c.requires.vertices in
+    let few = few_colours c.args.graph.now c.is_graph.ensures.colours c.requires.vertices in
     omega (arith, few, c.colour_count-before-end.ensures)
 
 pub loop-before-preserved : goal.loop-before-preserved

@@ -1,9 +1,12 @@
 use Rattle.std.proofs.Common.{◌-◌, ◌<◌, ◌≤◌, length, arith, bit_and, refl, to_z, w64}
 use Rattle.std.proofs.lemmas.Int.{to_z-of_z}
 use Rattle.std.proofs.lemmas.Nat.{and_le_l}
-use Rattle.certificate_checker.specs.inside.Enough.{IsRaised, number_in}
-use Rattle.certificate_checker.proofs.PartWalk.{PartAt-before, PartAt-self, SFits-gain, SFits-number, enough-first}
-use Rattle.certificate_checker.proofs.PartWalk.{enough-last, enough-more, part_at, raised-as}
+use Rattle.tree_certificate.specs.Enough.{IsRaised}
+use Rattle.tree_certificate.specs.Number.{number_in}
+use Rattle.certificate_checker.proofs.Fits.{SFits-gain, SFits-number}
+use Rattle.tree_certificate.proofs.PartWalk.{PartAt-before, PartAt-self, enough-first}
+use Rattle.certificate_checker.proofs.LeastEnough.{part_at}
+use Rattle.tree_certificate.proofs.PartWalk.{enough-last, enough-more, raised-as}
 use Rattle.certificate_checker.proofs.parts.least_enough.Goals as goal
 
 pub loop-part-init : goal.loop-part-init

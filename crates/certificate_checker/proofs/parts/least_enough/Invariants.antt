@@ -1,6 +1,6 @@
 use Rattle.std.proofs.Common.{◌≡◌, ◌≤◌, ◌↔◌, ℤ, ◌≤ℤ◌, List, Bool}
 use Rattle.tree_certificate.specs.ColourSet.{place_of}
-use Rattle.certificate_checker.specs.inside.Enough.{IsEnoughAbove, PartAt, UsefulPart}
+use Rattle.tree_certificate.specs.Enough.{IsEnoughAbove, PartAt, UsefulPart}
 use Rattle.certificate_checker.proofs.parts.least_enough.Given as goal
 
 abbrev pub invariant-loop-part : goal.invariant-loop-part
@@ -8,7 +8,7 @@ invariant-loop-part l = record {
   within : l.part ≤ l.set;
   part : (colours : List Bool) (it : UsefulPart l.own l.gains colours l.parts) → PartAt it.part l.part;
   enough : (colours : List Bool) (it : UsefulPart l.own l.gains colours l.parts) → place_of colours ≡ l.set
-      → (upper : ℤ) → (l.most ≤ℤ upper) ↔ IsEnoughAbove l.own l.gains colours it.part l.part upper;
+      → (candidate : ℤ) → (l.most ≤ℤ candidate) ↔ IsEnoughAbove l.own l.gains colours it.part l.part candidate;
 }
 
 abbrev pub decreases-loop-part : goal.decreases-loop-part

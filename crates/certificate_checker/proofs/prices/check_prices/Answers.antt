@@ -23,6 +23,6 @@ returns-clause-bounded c = λ said.
     holds-none (PriceHolds graph allowed cert × (price_total graph cert ≤ℤ passed))
     (λ place. IsLeafPlace graph allowed cert passed 0 place)
     c.wrong_prices.result c.is_none.result c.is_none.ensures c.wrong_prices.ensures said in
-    c.what_prices_hold_bounds_every_tree.ensures graph allowed cert c.args.upper c.edge_count-count.ensures.is_graph
+    c.what_prices_hold_bounds_every_tree.ensures graph allowed cert c.args.upper c.is_graph.ensures
     holds.0
     (rw (to_z-of_z w64 c.args.upper c.ranges.upper) at holds.1)

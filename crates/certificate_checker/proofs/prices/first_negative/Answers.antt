@@ -5,13 +5,13 @@ use Rattle.certificate_checker.proofs.prices.first_negative.Goals as goal
 
 pub overflow_cast-result : goal.overflow_cast-result
 overflow_cast-result c =
-    let few = few_colours c.args.graph.now c.edge_count-count.ensures.is_graph.colours c.requires.vertices in
+    let few = few_colours c.args.graph.now c.is_graph.ensures.colours c.requires.vertices in
     let long = ap (λ prices. length prices) c.prices-prices.ensures.prices in
     omega (arith, few, long, c.requires.fits.price_count)
 
 pub overflow_add-result : goal.overflow_add-result
 overflow_add-result c =
-    let few = few_colours c.args.graph.now c.edge_count-count.ensures.is_graph.colours c.requires.vertices in
+    let few = few_colours c.args.graph.now c.is_graph.ensures.colours c.requires.vertices in
     let long = ap (λ prices. length prices) c.prices-prices.ensures.prices in
     omega (arith, few, long, c.requires.fits.price_count)
 

@@ -2,10 +2,10 @@ use Rattle.std.proofs.Common.{◌≡◌, ◌∙◌, ◌+◌, ◌<◌, ◌+ℤ◌
 use Rattle.std.proofs.lemmas.Int.{ints, to_z-of_z}
 use Rattle.std.proofs.lemmas.List.{take_more}
 use Rattle.colour_graph.specs.Colourful.{total}
-use Rattle.certificate_checker.specs.inside.Enough.{number_in}
+use Rattle.tree_certificate.specs.Number.{number_in}
 use Rattle.certificate_checker.specs.inside.Gained.{IsPriceSum}
 use Rattle.certificate_checker.proofs.CapOf.{total-push}
-use Rattle.certificate_checker.proofs.PartWalk.{SFits-number}
+use Rattle.certificate_checker.proofs.Fits.{SFits-number}
 use Rattle.certificate_checker.proofs.TableNumbers.{near-below}
 use Rattle.certificate_checker.proofs.prices.sum_of.Goals as goal
 

@@ -4,8 +4,9 @@ use Rattle.std.proofs.lemmas.Int.{to_z-of_z}
 use Rattle.std.proofs.lemmas.List.{length-map}
 use Rattle.colour_graph.specs.Graph.{IsScore, colour_count}
 use Rattle.tree_certificate.specs.TableHolds.{number_at, number_of, row_length}
-use Rattle.certificate_checker.specs.inside.Enough.{IsNumber, number_in}
-use Rattle.certificate_checker.proofs.PartWalk.{SFits-number, SFits-score, SFits-total}
+use Rattle.tree_certificate.specs.Number.{number_in}
+use Rattle.certificate_checker.specs.inside.Enough.{IsNumber}
+use Rattle.certificate_checker.proofs.Fits.{SFits-number, SFits-score, SFits-total}
 use Rattle.certificate_checker.proofs.TableNumbers.{numbers-row, place-last, row-some}
 use Rattle.certificate_checker.proofs.table.total_of.Goals as goal
 

@@ -1,8 +1,9 @@
 use Rattle.std.proofs.Common.{◌+◌, ◌*◌, ◌<◌, length, refl, arith, w64}
 use Rattle.std.proofs.lemmas.Int.{to_z-of_z}
-use Rattle.certificate_checker.specs.inside.Enough.{number_in}
+use Rattle.tree_certificate.specs.Number.{number_in}
 use Rattle.certificate_checker.proofs.FoundSets.{enough-next, set-in_row}
-use Rattle.certificate_checker.proofs.PartWalk.{SFits-number, enough-none, less-as, not_less-as}
+use Rattle.certificate_checker.proofs.Fits.{SFits-number, less-as, not_less-as}
+use Rattle.certificate_checker.proofs.LeastEnough.{enough-none}
 use Rattle.certificate_checker.proofs.vertex.first_below.Goals as goal
 
 pub returns-then-row-place : goal.returns-then-row-place

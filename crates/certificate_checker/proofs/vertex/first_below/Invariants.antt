@@ -1,6 +1,8 @@
 use Rattle.std.proofs.Common.{◌<◌, ◌*◌, ◌+◌, ℤ, Bool, List, length}
 use Rattle.tree_certificate.specs.ColourSet.{place_of}
-use Rattle.certificate_checker.specs.inside.Enough.{AreNoGains, IsEnough, number_in}
+use Rattle.tree_certificate.specs.Enough.{IsEnough}
+use Rattle.tree_certificate.specs.Number.{number_in}
+use Rattle.certificate_checker.specs.inside.Enough.{AreNoGains}
 use Rattle.certificate_checker.proofs.vertex.first_below.Given as goal
 
 abbrev pub invariant-loop-set : goal.invariant-loop-set

@@ -5,9 +5,10 @@ use Rattle.std.proofs.lemmas.Int.{to_z-of_z}
 use Rattle.colour_graph.specs.Graph.{colour_count, colour_of}
 use Rattle.tree_certificate.specs.TableHolds.{number_at, row_at}
 use Rattle.tree_certificate.proofs.SetParts.{powers-rise}
-use Rattle.certificate_checker.specs.inside.Enough.{IsNumber, number_in}
+use Rattle.tree_certificate.specs.Number.{number_in}
+use Rattle.certificate_checker.specs.inside.Enough.{IsNumber}
 use Rattle.certificate_checker.proofs.LowPlaces.{found_earlier, found_of_vertex}
-use Rattle.certificate_checker.proofs.PartWalk.{SFits-number, not_less-as}
+use Rattle.certificate_checker.proofs.Fits.{SFits-number, not_less-as}
 use Rattle.certificate_checker.proofs.TableNumbers.{numbers-row, row-some}
 use Rattle.certificate_checker.proofs.vertex.first_low_of.Goals as goal
 

@@ -1,8 +1,8 @@
 use Rattle.std.proofs.Common.{◌≡◌, ◌∙◌, ◌+◌, ◌-◌, ◌*◌, ◌^◌, ◌<◌, ◌≤◌, ℕ, ℤ, suc, List, length, map, ap, sym, arith}
 use Rattle.colour_graph.specs.Graph.{Graph, colour_count, colour_of}
-use Rattle.tree_certificate.specs.Number.{AreNumbers}
+use Rattle.tree_certificate.specs.Number.{AreNumbers, number_in}
 use Rattle.tree_certificate.specs.TableHolds.{FitsGraph, row_at, row_length}
-use Rattle.certificate_checker.specs.inside.Enough.{AreGainsBefore, AreNumbersBelow, number_in}
+use Rattle.certificate_checker.specs.inside.Enough.{AreGainsBefore, AreNumbersBelow}
 use Rattle.certificate_checker.proofs.EnoughIsHigh.{AreGathered}
 use Rattle.certificate_checker.proofs.LowPlaces.{found_of_size, gathered, row_split}
 use Rattle.certificate_checker.proofs.TableNumbers.{numbers-row, row-few}

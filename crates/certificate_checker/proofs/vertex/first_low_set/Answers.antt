@@ -1,9 +1,9 @@
 use Rattle.std.proofs.Common.{◌+◌, ◌*◌, ◌<◌, length, arith, bit_and, refl, w64}
 use Rattle.std.proofs.lemmas.Int.{to_z-of_z}
-use Rattle.certificate_checker.specs.inside.Enough.{number_in}
+use Rattle.tree_certificate.specs.Number.{number_in}
 use Rattle.certificate_checker.proofs.FoundSets.{enough-next, set-in_row}
 use Rattle.certificate_checker.proofs.IdleColours.{enough-told}
-use Rattle.certificate_checker.proofs.PartWalk.{SFits-number, at_most-as, less-as, not_less-as}
+use Rattle.certificate_checker.proofs.Fits.{SFits-number, at_most-as, less-as, not_less-as}
 use Rattle.certificate_checker.proofs.vertex.first_low_set.Goals as goal
 
 pub returns-then-not-any : goal.returns-then-not-any

@@ -1,6 +1,7 @@
 use Rattle.std.proofs.Common.{◌<◌, ◌*◌, ◌+◌, Bool, List}
 use Rattle.tree_certificate.specs.ColourSet.{place_of}
-use Rattle.certificate_checker.specs.inside.Enough.{IsEnough, number_in}
+use Rattle.tree_certificate.specs.Enough.{IsEnough}
+use Rattle.tree_certificate.specs.Number.{number_in}
 use Rattle.certificate_checker.proofs.vertex.first_low_set.Given as goal
 
 abbrev pub invariant-loop-set : goal.invariant-loop-set

@@ -5,8 +5,8 @@ use Rattle.check_command.specs.CheckPromise.{check_meaning}
 use Rattle.run_plan.specs.Running.{status_of}
 use Rattle.check_command.proofs.checking.check_under.Goals as goal
 
-pub returns-clause-texts : goal.returns-clause-texts
-returns-clause-texts g c =
+pub returns-3-clause-texts : goal.returns-3-clause-texts
+returns-3-clause-texts g c =
     subst (λ (settings : SolveSettingsValue). IfSome
     ((g.D.Desk.state c.args.desk.now).gives c.args.names.now.spectra.now) (λ text.
     IfSome ((g.D.Desk.state c.args.desk.now).gives c.args.names.now.document.now) (λ bytes.

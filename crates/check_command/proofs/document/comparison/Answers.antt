@@ -21,7 +21,7 @@ returns-then-ne c settings text spectra reads answer = (
   reads,
   record {
     before = subst (AreSectionsAnswer settings spectra c.args.document.now.sections) c.in_default.is answer;
-    differs = λ same. difference _ _ _ c.ne.ensures c.if-ne.true (same ∙ sym c.ending_of.ensures);
+    differs = λ same. difference _ _ _ c.ne.ensures c.if-ne.true (same ∙ sym c.ending_of.ensures.ending);
     numbered = ap (λ (sections : List Section). length sections + 1) c.items-sections.ensures;
   },
 )
@@ -32,7 +32,7 @@ returns c settings text spectra reads answer = (
     spectra = spectra;
     reads = reads;
     sections = subst (AreSectionsAnswer settings spectra c.args.document.now.sections) c.in_default.is answer;
-    ending = no_difference _ _ _ c.ne.ensures c.if-ne.false ∙ c.ending_of.ensures;
+    ending = no_difference _ _ _ c.ne.ensures c.if-ne.false ∙ c.ending_of.ensures.ending;
   },
   ap (λ (sections : List Section). length sections) c.items-sections.ensures,
 )

@@ -2,7 +2,7 @@ use Rattle.std.proofs.Common.{refl}
 use Rattle.std.proofs.lemmas.Result.{IfOk-weaker}
 use Rattle.right_document.specs.Outlined.{Outlined}
 use Rattle.check_command.specs.inside.CheckAnswers.{IsBodyAnswer, IsSectionAnswer}
-use Rattle.right_document.specs.Outlines.{outline_of}
+use Rattle.tree_document.specs.Outline.{outline_of}
 use Rattle.right_document.specs.SettingsOf.{solve_settings_value_of}
 use Rattle.check_command.proofs.IsSectionAnswer.{section_answer}
 use Rattle.check_command.proofs.section.section_place.Goals as goal

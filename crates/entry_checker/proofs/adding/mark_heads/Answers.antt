@@ -7,7 +7,7 @@ use Rattle.entry_checker.proofs.adding.mark_heads.Goals as goal
 
 pub bounds-taken-from : goal.bounds-taken-from
 bounds-taken-from c =
-    let low = colour-le_vertex c.args.graph.now c.edge_count-count.ensures.is_graph.colours c.edge_at-head.result.head
+    let low = colour-le_vertex c.args.graph.now c.is_graph.ensures.colours c.edge_at-head.result.head
     c.edge_at-head.ensures.is_edge.head in
     omega (
       arith,
@@ -25,7 +25,7 @@ loop-edge-preserved c =
     let head_is : c.edge_at-head.result.head ≡ (edge_at graph (get_or c.args.edges.now c.loop-edge.edge-index 0)).head =
     ap
     (λ edge. edge.head) c.edge_at-head.ensures.edge in
-    let low = colour-le_vertex graph c.edge_count-count.ensures.is_graph.colours c.edge_at-head.result.head
+    let low = colour-le_vertex graph c.is_graph.ensures.colours c.edge_at-head.result.head
     c.edge_at-head.ensures.is_edge.head in
     let head_in : c.from.result < length c.loop-edge.reached =
     omega (

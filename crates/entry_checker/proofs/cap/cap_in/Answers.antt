@@ -4,19 +4,19 @@ use Rattle.colour_graph.specs.Graph.{colour_count}
 use Rattle.colour_graph.proofs.Order.{colour-le_vertex}
 use Rattle.colour_graph.proofs.Scores.{IsNear-more, added}
 use Rattle.certificate_checker.proofs.CapOf.{cap-more}
-use Rattle.certificate_checker.proofs.PartWalk.{SFits-score}
+use Rattle.certificate_checker.proofs.Fits.{SFits-score}
 use Rattle.entry_checker.proofs.cap.cap_in.Goals as goal
 
 pub overflow_cast-before : goal.overflow_cast-before
 overflow_cast-before c =
-    let colours = c.edge_count-count.ensures.is_graph.colours in
+    let colours = c.is_graph.ensures.colours in
     let low = colour-le_vertex c.args.graph.now colours (length c.args.graph.now.colours - 1)
     (omega (arith, colours.some)) in
     omega (arith, low, c.colour_count-before-end.ensures, c.requires.vertices)
 
 pub overflow_add-before : goal.overflow_add-before
 overflow_add-before c =
-    let colours = c.edge_count-count.ensures.is_graph.colours in
+    let colours = c.is_graph.ensures.colours in
     let low = colour-le_vertex c.args.graph.now colours (length c.args.graph.now.colours - 1)
     (omega (arith, colours.some)) in
     omega (arith, low, c.colour_count-before-end.ensures, c.requires.vertices)
@@ -24,7 +24,7 @@ overflow_add-before c =
 pub loop-before-preserved : goal.loop-before-preserved
 loop-before-preserved c =
     let graph = c.args.graph.now in
-    let colours = c.edge_count-count.ensures.is_graph.colours in
+    let colours = c.is_graph.ensures.colours in
     let low = colour-le_vertex graph colours (length graph.colours - 1) (omega (arith, colours.some)) in
     let few : c.loop-before.before < 100000 =
     omega (arith, low, c.colour_count-before-end.ensures, c.requires.vertices) in

@@ -4,7 +4,7 @@ use Rattle.std.specs.Ordering.{int_cmp, ord_max}
 use Rattle.colour_graph.specs.EdgeSet.{is_allowed}
 use Rattle.colour_graph.specs.Graph.{edge_at}
 use Rattle.certificate_checker.proofs.CapOf.{IsGreater, IsGreater-max, greatest-last, greatest-more, greatest-same}
-use Rattle.certificate_checker.proofs.PartWalk.{SFits-score}
+use Rattle.certificate_checker.proofs.Fits.{SFits-score}
 use Rattle.entry_checker.proofs.cap.greatest_into.Goals as goal
 use Rattle.entry_checker.proofs.cap.greatest_into.Goals.{then-here, else-here}
 

@@ -147,10 +147,10 @@ put_part-requires t c =
     c.requires.set sides.is_split)
 
 pub returns-in-Priced-clause-gathered : goal.returns-in-Priced-clause-gathered
-returns-in-Priced-clause-gathered t c leaves forks before =
+returns-in-Priced-clause-gathered t c leaves splits before =
     gathered_leaf c.args.graph.now c.args.gap.score c.args.gap.upper c.args.allowed.now c.args.bound.now
     c.in-Priced.cert c.args.found.now.next
-    leaves forks c.look_at_leaf.new.found c.in-Priced.is (c.look_at_leaf.ensures.gathered leaves forks before)
+    leaves splits c.look_at_leaf.new.found c.in-Priced.is (c.look_at_leaf.ensures.gathered leaves splits before)
 
 pub returns-in_ok-look_at-in-Split-2-clause-next :
     goal.returns-in_ok-look_at-in-Split-2-clause-next
@@ -171,7 +171,7 @@ returns-in_ok-look_at-in-Split-2-clause-next t c =
 
 pub returns-in_ok-look_at-in-Split-2-clause-gathered :
     goal.returns-in_ok-look_at-in-Split-2-clause-gathered
-returns-in_ok-look_at-in-Split-2-clause-gathered t c leaves forks before =
+returns-in_ok-look_at-in-Split-2-clause-gathered t c leaves splits before =
     let graph = c.args.graph.now in
     let long : c.len-before.result ≡ length c.args.taken.now.items =
     omega (arith, c.args.taken.now.ok.0, c.len-before.ensures) in
@@ -186,14 +186,14 @@ returns-in_ok-look_at-in-Split-2-clause-gathered t c leaves forks before =
     c.take_part.ensures ∙ ap (λ xs. leaving xs c.as_slice-part.result.now) undone
     ∙ ap (λ xs. leaving c.args.allowed.now xs) c.as_slice-part.ensures in
     let kept = sym c.in_ok-look_at-in-Split.ensures.set ∙ side.set in
-    let one = c.look_at_split.ensures.gathered leaves forks before in
+    let one = c.look_at_split.ensures.gathered leaves splits before in
     let two = c.in_ok-look_at-in-Split.ensures.gathered _ _ one in
     let three = c.in_ok-look_at-in-Split-2.ensures.gathered _ _ two in
     gathered_sides graph c.args.gap.score c.args.gap.upper c.args.allowed.now c.keep_only.new.allowed
     c.take_part.new.allowed c.args.bound.now
     c.in-Split.colour c.in-Split.part c.in-Split.first c.in-Split.second c.args.found.now.next
     c.look_at_split.new.found.next c.look_at.new.found.next
-    leaves forks c.look_at-in-Split.new.found c.in-Split.is kept left c.look_at_split.ensures.next
+    leaves splits c.look_at-in-Split.new.found c.in-Split.is kept left c.look_at_split.ensures.next
     (c.in_ok-look_at-in-Split.ensures.next
     ∙ ap (λ b. c.look_at_split.new.found.next + nodes_of (bound_value b)) c.get.ensures)
     (rw (c.get.ensures, c.get-in-Split.ensures) at three)

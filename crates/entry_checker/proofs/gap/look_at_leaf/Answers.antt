@@ -8,7 +8,7 @@ use Rattle.entry_checker.proofs.Gathering.{at_most-as, found_node, not_at_most-a
 use Rattle.entry_checker.proofs.gap.look_at_leaf.Goals as goal
 
 pub returns-clause-gathered : goal.returns-clause-gathered
-returns-clause-gathered c leaves forks before =
+returns-clause-gathered c leaves splits before =
     let leaf : Leaf = record { node = c.args.found.now.next; allowed = c.args.allowed.now; cert = c.args.cert.now } in
     let total = price_total c.args.graph.now c.args.cert.now in
     let cap = cap_of c.args.graph.now c.args.allowed.now in

@@ -32,7 +32,7 @@ overflow_cast-result c =
       arith,
       few,
       ap (λ built. length built.graph.edges) c.built.view_is,
-      edges-few _ c.edge_count-count.ensures.is_graph,
+      edges-few _ c.is_graph.ensures,
     )
 
 pub overflow_add-result : goal.overflow_add-result
@@ -42,7 +42,7 @@ overflow_add-result c =
       arith,
       few,
       ap (λ built. length built.graph.edges) c.built.view_is,
-      edges-few _ c.edge_count-count.ensures.is_graph,
+      edges-few _ c.is_graph.ensures,
     )
 
 pub note_row-requires-clause-few : goal.note_row-requires-clause-few

@@ -1,10 +1,17 @@
 use Rattle.std.proofs.Common.{◌≡◌, ◌∙◌, ap, arith}
 use Rattle.std.proofs.lemmas.List.{get_or_default}
+use Rattle.colour_graph.proofs.Order.{edges-few}
 use Rattle.colour_graph.specs.Graph.{edge_at}
 use Rattle.tree_document.specs.declared.entry.TreeRow.{TreeRow}
 use Rattle.tree_entry.specs.Rows.{head_of}
 use Rattle.entry_checker.proofs.AreFirsts.{AreFirsts-noted, AreFirsts-passed}
 use Rattle.entry_checker.proofs.rows.note_row.Goals as goal
+
+pub overflow_cast-firsts : goal.overflow_cast-firsts
+overflow_cast-firsts c = omega (arith, c.requires.few, edges-few _ c.is_graph.ensures)
+
+pub overflow_add-firsts : goal.overflow_add-firsts
+overflow_add-firsts c = omega (arith, c.requires.few, edges-few _ c.is_graph.ensures)
 
 pub returns-then-firsts-head-eq0-clause-firsts : goal.returns-then-firsts-head-eq0-clause-firsts
 returns-then-firsts-head-eq0-clause-firsts c =

@@ -1,5 +1,5 @@
 use Rattle.std.proofs.Common.{ap, append_assoc, rules}
-use Rattle.right_document.specs.Outlines.{outline_of}
+use Rattle.tree_document.specs.Outline.{outline_of}
 use Rattle.right_document.specs.Outlined.{Outlined}
 use Rattle.list_command.proofs.section.push_section.Goals as goal
 

@@ -1,7 +1,7 @@
 use Rattle.std.proofs.Common.{◌≡◌, ◌<◌, ◌+ℤ◌, ◌≤ℤ◌, ℤ, pos, length, arith, refl, to_z, of_z, w64, ap, sym, ◌∙◌}
 use Rattle.std.proofs.lemmas.Bool.{true≢false}
 use Rattle.std.proofs.lemmas.Int.{ints, to_z-of_z}
-use Rattle.price_bound.specs.inside.Exact.{number_in}
+use Rattle.tree_certificate.specs.Number.{number_in}
 use Rattle.price_bound.proofs.Numbers.{SFits-amount, SFits-gain, number_in-other, number_in-same, set-above, set-below}
 use Rattle.price_bound.proofs.exact.add_gains.Goals as goal
 use Rattle.price_bound.proofs.exact.add_gains.Goals.{then-sum-gt-GREATEST, else-sum-gt-GREATEST}

@@ -1,5 +1,5 @@
 use Rattle.std.proofs.Common.{◌≡◌, ◌≤◌, ◌<◌, ◌+ℤ◌, ◌≤ℤ◌, ◌<ℤ◌, ℕ, pos, true, false}
-use Rattle.price_bound.specs.inside.Exact.{number_in}
+use Rattle.tree_certificate.specs.Number.{number_in}
 use Rattle.price_bound.proofs.exact.add_gains.Given as goal
 
 abbrev pub invariant-loop-vertex : goal.invariant-loop-vertex

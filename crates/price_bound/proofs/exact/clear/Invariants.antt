@@ -1,5 +1,5 @@
 use Rattle.std.proofs.Common.{◌≡◌, ◌<◌, ℕ, pos}
-use Rattle.price_bound.specs.inside.Exact.{number_in}
+use Rattle.tree_certificate.specs.Number.{number_in}
 use Rattle.price_bound.proofs.exact.clear.Given as goal
 
 abbrev pub invariant-loop-number : goal.invariant-loop-number

@@ -1,6 +1,6 @@
 use Rattle.std.proofs.Common.{◌≡◌, ◌-◌, ◌+ℤ◌, arith, ap, ◌∙◌, to_z, of_z, w64}
 use Rattle.std.proofs.lemmas.Int.{to_z-of_z}
-use Rattle.price_bound.specs.inside.Exact.{number_in}
+use Rattle.tree_certificate.specs.Number.{number_in}
 use Rattle.price_bound.proofs.Adding.{exact-more}
 use Rattle.price_bound.proofs.Edges.{colours-few}
 use Rattle.price_bound.proofs.Numbers.{SFits-amount}
@@ -8,7 +8,7 @@ use Rattle.price_bound.proofs.exact.set_potentials.Goals as goal
 
 pub overflow_cast-colour : goal.overflow_cast-colour
 overflow_cast-colour c =
-    let colours = c.edge_count-edges.ensures.is_graph.colours in
+    let colours = c.is_graph.ensures.colours in
     omega (arith, colours-few c.args.graph.now colours, colours.few, c.colour_count-colour.ensures)
 
 pub returns-then-not-add_gains-clause-high : goal.returns-then-not-add_gains-clause-high
@@ -36,7 +36,7 @@ returns-then-not-add_gains-clause-high c = λ is.
       );
       exact = exact-more graph c.args.allowed.now prices c.loop-colour.potentials c.add_gains.new.potentials
           c.loop-colour.colour before
-          c.edge_count-edges.ensures.is_graph (omega arith) c.loop-colour.invariant.counted
+          c.is_graph.ensures (omega arith) c.loop-colour.invariant.counted
           (λ v within. c.add_gains.ensures.added v
           ∙ ap (λ n. number_in c.loop-colour.potentials v +ℤ n) (gains v within)) c.loop-colour.invariant.exact;
       high = high.2;
@@ -56,7 +56,7 @@ loop-colour-preserved c =
       counted = omega (arith, c.loop-colour.invariant.counted);
       exact = exact-more graph c.args.allowed.now prices c.loop-colour.potentials c.add_gains.new.potentials
           c.loop-colour.colour before
-          c.edge_count-edges.ensures.is_graph (omega arith) c.loop-colour.invariant.counted
+          c.is_graph.ensures (omega arith) c.loop-colour.invariant.counted
           (λ v within. c.add_gains.ensures.added v
           ∙ ap (λ n. number_in c.loop-colour.potentials v +ℤ n) (gains v within)) c.loop-colour.invariant.exact;
       low = c.add_gains.ensures.low c.if-not-add_gains.false;

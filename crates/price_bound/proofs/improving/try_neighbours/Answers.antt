@@ -7,17 +7,17 @@ use Rattle.price_bound.proofs.improving.try_neighbours.Goals.{else-uses-colour-g
 
 pub scaled-prices-requires : goal.scaled-prices-requires
 scaled-prices-requires c =
-    let few = colours-few c.args.graph.now c.edge_count-edges.ensures.is_graph.colours in
+    let few = colours-few c.args.graph.now c.is_graph.ensures.colours in
     rw c.deref.ensures.value (omega (arith, few, c.requires.vertices, c.requires.offers.kept.room.fits.price_count))
 
 pub bounds-uses-colour : goal.bounds-uses-colour
 bounds-uses-colour c =
-    let few = colours-few c.args.graph.now c.edge_count-edges.ensures.is_graph.colours in
+    let few = colours-few c.args.graph.now c.is_graph.ensures.colours in
     omega (arith, few, c.requires.vertices, c.colour_count-colour-end.ensures, c.loop-colour-test.true)
 
 pub bounds-uses-colour-else-uses-colour-gt1 : goal.bounds-uses-colour-else-uses-colour-gt1
 bounds-uses-colour-else-uses-colour-gt1 c =
-    let few = colours-few c.args.graph.now c.edge_count-edges.ensures.is_graph.colours in
+    let few = colours-few c.args.graph.now c.is_graph.ensures.colours in
     omega (arith, few, c.requires.vertices, c.colour_count-colour-end.ensures, c.loop-colour-test.true)
 
 pub loop-colour-preserved : goal.loop-colour-preserved

@@ -7,7 +7,7 @@ use Rattle.price_bound.proofs.packed.groups_of.Goals.{then-edge-group+in_ok-push
 
 pub loop-place-preserved : goal.loop-place-preserved
 loop-place-preserved c =
-    let few = colours-few c.args.graph.now c.edge_count-edges_in_all.ensures.is_graph.colours in
+    let few = colours-few c.args.graph.now c.is_graph.ensures.colours in
     let edge = c.requires.edges c.loop-place.place
     (record { tail = 0; head = 0; weight = pos 0 }) c.loop-place-test.true in
     elim c.if-edge-group.branch [

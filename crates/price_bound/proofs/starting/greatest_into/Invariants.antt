@@ -4,9 +4,9 @@ use Rattle.price_bound.proofs.Edges.{IsInto, weight_at}
 use Rattle.price_bound.proofs.Greatest.{IsGreatest}
 use Rattle.price_bound.proofs.starting.greatest_into.Given as goal
 
-abbrev pub invariant-loop-place : goal.invariant-loop-place
-invariant-loop-place l = record {
-  greatest : IsGreatest (IsInto l.graph l.allowed l.colour) (weight_at l.graph) l.place l.most;
+abbrev pub invariant-loop-edge : goal.invariant-loop-edge
+invariant-loop-edge l = record {
+  greatest : IsGreatest (IsInto l.graph l.allowed l.colour) (weight_at l.graph) l.edge l.most;
   near : IsScore l.most;
   not_below : pos 0 ≤ℤ l.most;
 }

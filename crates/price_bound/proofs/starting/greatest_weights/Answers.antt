@@ -11,12 +11,12 @@ use Rattle.price_bound.proofs.starting.greatest_weights.Goals as goal
 
 pub overflow_cast-before : goal.overflow_cast-before
 overflow_cast-before c =
-    let colours = c.edge_count-edges.ensures.is_graph.colours in
+    let colours = c.is_graph.ensures.colours in
     omega (arith, colours-few c.args.graph.now colours, colours.few, c.colour_count-before-end.ensures)
 
 pub overflow_add-before : goal.overflow_add-before
 overflow_add-before c =
-    let colours = c.edge_count-edges.ensures.is_graph.colours in
+    let colours = c.is_graph.ensures.colours in
     omega (arith, colours-few c.args.graph.now colours, colours.few, c.colour_count-before-end.ensures)
 
 pub loop-before-preserved : goal.loop-before-preserved

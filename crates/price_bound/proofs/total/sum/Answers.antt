@@ -1,6 +1,6 @@
 use Rattle.std.proofs.Common.{◌≡◌, ◌+◌, ◌≤◌, ◌+ℤ◌, ℤ, arith, ap, sym, ◌∙◌, to_z, of_z, w64}
 use Rattle.std.proofs.lemmas.Int.{to_z-of_z}
-use Rattle.price_bound.specs.inside.Exact.{number_in}
+use Rattle.tree_certificate.specs.Number.{number_in}
 use Rattle.price_bound.proofs.Totals.{IsNear-at, IsSumNear-more, SFits-near, SFits-sum, total-more}
 use Rattle.price_bound.proofs.total.sum.Goals as goal
 

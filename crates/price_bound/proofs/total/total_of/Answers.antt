@@ -3,20 +3,20 @@ use Rattle.std.proofs.lemmas.Int.{to_z-of_z}
 use Rattle.colour_graph.specs.Colourful.{total}
 use Rattle.colour_graph.proofs.Order.{colour-le_vertex}
 use Rattle.colour_graph.proofs.Scores.{SFits-score}
-use Rattle.price_bound.specs.inside.Exact.{number_in}
+use Rattle.tree_certificate.specs.Number.{number_in}
 use Rattle.price_bound.proofs.Totals.{IsNear-at, IsSumNear-total, SFits-whole, SFits-with, with_prices, with_root}
 use Rattle.price_bound.proofs.total.total_of.Goals as goal
 
 pub sum-requires-clause-few : goal.sum-requires-clause-few
 sum-requires-clause-few c =
-    let colours = c.edge_count-edges.ensures.is_graph.colours in
+    let colours = c.is_graph.ensures.colours in
     let low = colour-le_vertex c.args.graph.now colours (length c.args.graph.now.colours - 1)
     (omega (arith, colours.some)) in
     omega (arith, low, colours.few, c.requires.prices)
 
 pub overflow_add-result : goal.overflow_add-result
 overflow_add-result c =
-    let colours = c.edge_count-edges.ensures.is_graph.colours in
+    let colours = c.is_graph.ensures.colours in
     let low = colour-le_vertex c.args.graph.now colours (length c.args.graph.now.colours - 1)
     (omega (arith, colours.some)) in
     let few : length c.args.prices.now ≤ 4096 = omega (arith, low, colours.few, c.requires.prices) in
@@ -27,7 +27,7 @@ overflow_add-result c =
 
 pub overflow_add-result-2 : goal.overflow_add-result-2
 overflow_add-result-2 c =
-    let colours = c.edge_count-edges.ensures.is_graph.colours in
+    let colours = c.is_graph.ensures.colours in
     let low = colour-le_vertex c.args.graph.now colours (length c.args.graph.now.colours - 1)
     (omega (arith, colours.some)) in
     let few : length c.args.prices.now ≤ 4096 = omega (arith, low, colours.few, c.requires.prices) in
@@ -41,7 +41,7 @@ overflow_add-result-2 c =
 
 pub returns : goal.returns
 returns c =
-    let colours = c.edge_count-edges.ensures.is_graph.colours in
+    let colours = c.is_graph.ensures.colours in
     let low = colour-le_vertex c.args.graph.now colours (length c.args.graph.now.colours - 1)
     (omega (arith, colours.some)) in
     let few : length c.args.prices.now ≤ 4096 = omega (arith, low, colours.few, c.requires.prices) in

@@ -14,7 +14,7 @@ unwrap-requires c =
     c.set_potentials-low.result
     (c.in_ok-prices.ensures.items_if_clones_equal (λ y is. is)) c.colour_count.ensures (long
     ∙ c.in_ok-potentials.ensures.len ∙ c.vertex_count-vertices.ensures)
-    c.edge_count-edges.ensures.is_graph c.requires.vertices c.requires.few (record {
+    c.is_graph.ensures c.requires.vertices c.requires.few (record {
       exact = rw c.deref.ensures.value at c.set_potentials-low.ensures.exact;
       amounts = c.set_potentials-low.ensures.low;
       high = rw c.deref.ensures.value at c.set_potentials-low.ensures.high;
@@ -34,7 +34,7 @@ returns c =
     c.set_potentials-low.result
     (c.in_ok-prices.ensures.items_if_clones_equal (λ y is. is)) c.colour_count.ensures (long
     ∙ c.in_ok-potentials.ensures.len ∙ c.vertex_count-vertices.ensures)
-    c.edge_count-edges.ensures.is_graph c.requires.vertices c.requires.few (record {
+    c.is_graph.ensures c.requires.vertices c.requires.few (record {
       exact = rw c.deref.ensures.value at c.set_potentials-low.ensures.exact;
       amounts = c.set_potentials-low.ensures.low;
       high = rw c.deref.ensures.value at c.set_potentials-low.ensures.high;

@@ -15,7 +15,7 @@ plus-ion-requires c place =
     let read = c.index-lists-0.result in
     ap (λ list. list.formulas)
     (c.precursor.view_is ∙ c.index-lists-0.is ∙ get_or_default lists 0 read _ c.requires.some) in
-    let listed = rw list_is at c.items-listed.ensures.formulas in
+    let listed = rw list_is at c.are_formulas.ensures in
     let ion = root_of c.args.choice.now c.args.candidate.now in
     let root = All-contains IsFormula (list_at lists 0).formulas ion listed c.requires.holds_root in
     union-capped c.args.candidate.now c.adduct.inside.extra c.is_formula.ensures c.is_formula-2.ensures

@@ -1,4 +1,5 @@
-use Rattle.std.proofs.Common.{◌≡◌, ◌⊎◌, ◌++◌, ◌∙◌, ℕ, List, [], ◌∷◌, Option, None, Some, Result, Ok, option_map, ap, IfSome, refl, sym, subst}
+use Rattle.std.proofs.Common.{◌≡◌, ◌⊎◌, ◌++◌, ◌∙◌, ℕ, List, [], ◌∷◌, Option, None, Some, Result, Ok, option_map, ap}
+use Rattle.std.proofs.Common.{IfSome, refl, sym, subst}
 use Rattle.std.proofs.lemmas.Option.{IfSome_then}
 use Rattle.std.proofs.lemmas.Result.{err_from_is_err_and}
 use Rattle.frag_io.specs.declared.desk.Slot.TheVariants.{Profile}
@@ -10,7 +11,8 @@ use Rattle.run_plan.specs.Plan.{begin, profile_steps, read}
 use Rattle.run_plan.specs.ProfilePromise.{ProfilePromise}
 use Rattle.run_plan.specs.Running.{Ends}
 use Rattle.run_plan.proofs.Running.{done_nothing, error_ends, unfinished}
-use Rattle.run_plan.proofs.ProfilePromise.{accepted_profile, error_promise, own_error, own_open, own_read, stopped_promise}
+use Rattle.run_plan.proofs.ProfilePromise.{accepted_profile, error_promise, own_error, own_open, own_read}
+use Rattle.run_plan.proofs.ProfilePromise.{stopped_promise}
 use Rattle.run_plan.proofs.profile_text.read_named.Goals as goal
 
 pub returns-in_err-begin_slot-clause-ends : goal.returns-in_err-begin_slot-clause-ends

@@ -16,5 +16,5 @@ returns g c text reads =
     ∙ ap (λ (bytes : List ℕ). bytes ++ flat_map section_text_of pushed.0) c.new-report.ensures.items
     in
     parts_are_made (solve_settings_value_of c.args.settings.now) text _ c.args.fault pushed.0 _ _ _ _ _
-    c.parts_make_the_spelling.ensures reads pushed.1 c.ending_is_good.ensures header pushed.2 ended.document sections
+    c.parts_make_the_spelling.ensures reads pushed.1 ended.good header pushed.2 ended.document sections
     ended.report

@@ -77,13 +77,13 @@ pub returns-clause-good : goal.returns-clause-good
 returns-clause-good c =
     let built = c.args.built.now in
     let is_small : IsSmall built = subst IsSmall c.built.view_is (record {
-      graph = c.edge_count-count.ensures.is_graph;
+      graph = c.is_graph.ensures;
       parts = c.built.invariant;
       vertices = subst (λ (built : LossGraphValue). length built.graph.colours ≤ greatest_graph)
           (sym c.built.view_is) c.requires.vertices;
       peaks = subst (λ (built : LossGraphValue). (colour : ℕ) → slice_index built.peaks colour ≤ greatest_peaks)
           (sym c.built.view_is) c.requires.peaks;
-      formulas = c.items-formulas.ensures.formulas;
+      formulas = c.are_formulas.ensures;
       losses = c.a_whole_is_its_part_and_its_loss.ensures.formula;
     }) in
     let edges_are = c.in_ok-rows.ensures.edges ∙ c.deref-2.ensures.value in

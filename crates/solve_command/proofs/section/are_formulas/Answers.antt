@@ -12,7 +12,7 @@ loop-list-preserved c =
     c.list-item.result
     c.loop-list-test.true c.loop-list.invariant
     (subst (λ (list : FormulaListValue). All IsFormula list.formulas) (c.list.view_is ∙ c.list-item.is)
-    c.items-formulas.ensures.formulas)
+    c.are_formulas.ensures)
 
 pub returns : goal.returns
 returns c =

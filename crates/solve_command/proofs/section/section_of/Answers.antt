@@ -1,9 +1,9 @@
 use Rattle.std.proofs.Common.{sym, subst}
 use Rattle.tree_document.specs.Document.{AreGoodLines, body_lines}
 use Rattle.tree_document.specs.declared.document.Body.{Body}
-use Rattle.right_document.specs.declared.outline.Outline.{Outline}
+use Rattle.tree_document.specs.declared.outline.Outline.{Outline}
 use Rattle.right_document.specs.GoodLines.{HasGoodReason}
-use Rattle.right_document.specs.Outlines.{outline_of}
+use Rattle.tree_document.specs.Outline.{outline_of}
 use Rattle.solve_command.proofs.section.section_of.Goals as goal
 use Rattle.solve_command.proofs.section.section_of.Goals.{in-Skipped, in-Listed+in_ok-solved_of-in-Listed}
 

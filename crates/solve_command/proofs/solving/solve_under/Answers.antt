@@ -5,8 +5,8 @@ use Rattle.run_plan.specs.Running.{status_of}
 use Rattle.solve_command.specs.SolvePromise.{solve_meaning}
 use Rattle.solve_command.proofs.solving.solve_under.Goals as goal
 
-pub returns-clause-text : goal.returns-clause-text
-returns-clause-text g c =
+pub returns-3-clause-text : goal.returns-3-clause-text
+returns-3-clause-text g c =
     subst (λ (settings : SolveSettingsValue). IfSome
     ((g.D.Desk.state c.args.desk.now).gives c.args.names.now.spectra.now) (λ text.
     OwesText (solve_meaning settings text) text (g.D.Desk.state c.solve_steps.new.desk)

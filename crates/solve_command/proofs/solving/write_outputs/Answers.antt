@@ -5,7 +5,8 @@ use Rattle.frag_io.specs.Desk.{appended}
 use Rattle.frag_io.specs.declared.desk.Slot.TheVariants.{Report, CertOut}
 use Rattle.run_plan.specs.Plan.{Step, finish, output_steps, write}
 use Rattle.run_plan.specs.Running.{Ends, HasDone}
-use Rattle.run_plan.proofs.TextSteps.{appended_all, appended_none, behind_three, behind_two, both, ends_as, ends_behind, on_err, on_ok}
+use Rattle.run_plan.proofs.TextSteps.{appended_all, appended_none, behind_three, behind_two, both, ends_as, ends_behind}
+use Rattle.run_plan.proofs.TextSteps.{on_err, on_ok}
 use Rattle.run_plan.proofs.TextSteps.{on_ok_then, outputs_ended}
 use Rattle.solve_command.proofs.solving.write_outputs.Goals as goal
 

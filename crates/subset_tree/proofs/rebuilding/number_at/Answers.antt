@@ -15,8 +15,8 @@ index-requires c =
     let fact : c.step_of-step.result * c.args.place < length c.index-rows-from.result.items = inside in
     omega (arith, fact, c.index-rows-from.result.ok)
 
-pub returns-clause-number : goal.returns-clause-number
-returns-clause-number c =
+pub returns : goal.returns
+returns c =
     let there = (c.requires.fits.each c.args.vertex c.requires.vertex).0 in
     let row_is = read_row c.args.rows.now c.args.vertex c.from.result c.index-rows-from.result c.from.ensures
     (omega (arith, there, length-map c.args.rows.now (λ row. row.items))) c.index-rows-from.is in
@@ -24,38 +24,17 @@ returns-clause-number c =
     c.step_of-step.result c.index-rows-from.result.items
     c.requires.fits c.requires.vertex c.colour_of.ensures.colour c.requires.before c.requires.counted c.requires.place
     c.step_of-step.ensures row_is in
-    λ set at long.
-    read_number _ c.args.vertex (c.step_of-step.result * c.args.place) c.index-rows-from.result.items c.index.result.now
-    c.requires.numbers there row_is inside c.index.ensures
-    ∙ step_place c.args.graph.now c.args.vertex c.args.place c.args.colour c.step_of-step.result c.colour_of.result _
-    c.colour_of.ensures.colour c.step_of-step.ensures set at long
-
-pub returns-clause-not_below : goal.returns-clause-not_below
-returns-clause-not_below c =
-    let there = (c.requires.fits.each c.args.vertex c.requires.vertex).0 in
-    let row_is = read_row c.args.rows.now c.args.vertex c.from.result c.index-rows-from.result c.from.ensures
-    (omega (arith, there, length-map c.args.rows.now (λ row. row.items))) c.index-rows-from.is in
-    let inside = in_row c.args.graph.now _ c.args.vertex c.args.place c.args.colour c.colour_of.result
-    c.step_of-step.result c.index-rows-from.result.items
-    c.requires.fits c.requires.vertex c.colour_of.ensures.colour c.requires.before c.requires.counted c.requires.place
-    c.step_of-step.ensures row_is in
-    let P : ℤ → Type 0 = λ z. negsuc 999999999999999 ≤ℤ z in
-    subst P (sym (read_number _ c.args.vertex (c.step_of-step.result * c.args.place) c.index-rows-from.result.items
-    c.index.result.now c.requires.numbers there row_is inside c.index.ensures))
-    (number_near _ c.args.vertex (c.step_of-step.result * c.args.place) c.requires.numbers there
-    (let Q : List ℤ → Type 0 = λ row. c.step_of-step.result * c.args.place < length row in subst Q row_is inside)).0
-
-pub returns-clause-not_above : goal.returns-clause-not_above
-returns-clause-not_above c =
-    let there = (c.requires.fits.each c.args.vertex c.requires.vertex).0 in
-    let row_is = read_row c.args.rows.now c.args.vertex c.from.result c.index-rows-from.result c.from.ensures
-    (omega (arith, there, length-map c.args.rows.now (λ row. row.items))) c.index-rows-from.is in
-    let inside = in_row c.args.graph.now _ c.args.vertex c.args.place c.args.colour c.colour_of.result
-    c.step_of-step.result c.index-rows-from.result.items
-    c.requires.fits c.requires.vertex c.colour_of.ensures.colour c.requires.before c.requires.counted c.requires.place
-    c.step_of-step.ensures row_is in
-    let P : ℤ → Type 0 = λ z. z ≤ℤ pos 1000000000000000 in
-    subst P (sym (read_number _ c.args.vertex (c.step_of-step.result * c.args.place) c.index-rows-from.result.items
-    c.index.result.now c.requires.numbers there row_is inside c.index.ensures))
-    (number_near _ c.args.vertex (c.step_of-step.result * c.args.place) c.requires.numbers there
-    (let Q : List ℤ → Type 0 = λ row. c.step_of-step.result * c.args.place < length row in subst Q row_is inside)).1
+    let read = read_number _ c.args.vertex (c.step_of-step.result * c.args.place) c.index-rows-from.result.items
+    c.index.result.now c.requires.numbers there row_is inside c.index.ensures in
+    let is_within : List ℤ → Type 0 = λ row. c.step_of-step.result * c.args.place < length row in
+    let near = number_near _ c.args.vertex (c.step_of-step.result * c.args.place) c.requires.numbers there
+    (subst is_within row_is inside) in
+    let is_low : ℤ → Type 0 = λ z. z ≤ℤ pos 1000000000000000 in
+    let is_high : ℤ → Type 0 = λ z. negsuc 999999999999999 ≤ℤ z in
+    record {
+      number = λ set at long.
+          read ∙ step_place c.args.graph.now c.args.vertex c.args.place c.args.colour c.step_of-step.result
+          c.colour_of.result _ c.colour_of.ensures.colour c.step_of-step.ensures set at long;
+      not_below = subst is_high (sym read) near.0;
+      not_above = subst is_low (sym read) near.1;
+    }

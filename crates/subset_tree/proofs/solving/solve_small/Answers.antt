@@ -11,7 +11,7 @@ returns-clause-best c = record {
   colourful = c.in_ok-edges.ensures.colourful;
   greatest =
       c.what_holds_bounds_every_tree.ensures c.args.graph.now (a_table _)
-      (score_of c.args.graph.now c.in_ok-edges.edges.items) c.edge_count-edges_in_all.ensures.is_graph
+      (score_of c.args.graph.now c.in_ok-edges.edges.items) c.is_graph.ensures
       (table_holds c.args.graph.now _ c.in_ok-edges.edges.items c.in_ok-rows.ensures.exact
       (c.in_ok-edges.ensures.score ∙ ap (λ rs. table_total c.args.graph.now (map (λ row. row.items) rs))
       c.deref.ensures.value));
@@ -28,12 +28,12 @@ returns-clause-holds c =
 pub returns-clause-maximal : goal.returns-clause-maximal
 returns-clause-maximal c =
     c.a_best_list_is_maximal.ensures c.args.graph.now c.in_ok-edges.edges.items
-    c.edge_count-edges_in_all.ensures.is_graph
+    c.is_graph.ensures
     (record {
       colourful = c.in_ok-edges.ensures.colourful;
       greatest =
           c.what_holds_bounds_every_tree.ensures c.args.graph.now (a_table _)
-          (score_of c.args.graph.now c.in_ok-edges.edges.items) c.edge_count-edges_in_all.ensures.is_graph
+          (score_of c.args.graph.now c.in_ok-edges.edges.items) c.is_graph.ensures
           (table_holds c.args.graph.now _ c.in_ok-edges.edges.items c.in_ok-rows.ensures.exact
           (c.in_ok-edges.ensures.score ∙ ap (λ rs. table_total c.args.graph.now (map (λ row. row.items) rs))
           c.deref.ensures.value));
@@ -42,6 +42,6 @@ returns-clause-maximal c =
 pub returns-clause-capped : goal.returns-clause-capped
 returns-clause-capped c =
     c.the_cap_bounds_every_tree.ensures c.args.graph.now
-    (all_edges c.args.graph.now) c.edge_count-edges_in_all.ensures.is_graph c.in_ok-edges.edges.items
+    (all_edges c.args.graph.now) c.is_graph.ensures c.in_ok-edges.edges.items
     c.in_ok-edges.ensures.colourful
     (in_all c.args.graph.now c.in_ok-edges.edges.items c.in_ok-edges.ensures.colourful)

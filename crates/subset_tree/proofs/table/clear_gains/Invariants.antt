@@ -1,5 +1,5 @@
 use Rattle.std.proofs.Common.{◌≡◌, ◌<◌, ℕ, negsuc}
-use Rattle.subset_tree.specs.inside.Filling.{number_in}
+use Rattle.tree_certificate.specs.Number.{number_in}
 use Rattle.subset_tree.proofs.table.clear_gains.Given as goal
 
 abbrev pub invariant-loop-gain : goal.invariant-loop-gain

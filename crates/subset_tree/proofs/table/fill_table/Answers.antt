@@ -18,7 +18,7 @@ loop-vertex-preserved c =
       room = c.in_ok-row.ensures.gains ∙ ap (λ (ns : List ℤ). length ns) c.deref_mut.ensures.value ∙ known.room;
       filled = filled-row graph (map (λ row. row.items) c.loop-vertex.rows.items)
           (map (λ row. row.items) (slice_set c.loop-vertex.rows.items vertex c.in_ok-row.row)) vertex
-          c.in_ok-row.row.items c.edge_count-edges.ensures.is_graph
+          c.in_ok-row.row.items c.is_graph.ensures
           (IsSetRow-map (λ row. row.items) c.loop-vertex.rows.items vertex c.in_ok-row.row
           (rw known.filled.count within))
           within c.in_ok-row.ensures.size (rw c.deref.ensures.value at c.in_ok-row.ensures.filled)

@@ -1,9 +1,11 @@
 use Rattle.std.proofs.Common.{ℕ, ◌+◌, ◌-◌, ◌*◌, ◌<◌, ◌≤ℤ◌, ℤ, pos, arith, refl, to_z, w64}
 use Rattle.std.proofs.lemmas.Int.{ints, to_z-of_z}
 use Rattle.std.proofs.lemmas.Nat.{and_le_r}
-use Rattle.subset_tree.specs.inside.Filling.{IsRaised, number_in}
-use Rattle.subset_tree.proofs.Sums.{PartAt-before, PartAt-self, enough-first, enough-last, enough-more, fits-gains}
-use Rattle.subset_tree.proofs.Sums.{fits-modest, raised-as, raised-not_above, raised-not_below}
+use Rattle.tree_certificate.specs.Enough.{IsRaised}
+use Rattle.tree_certificate.specs.Number.{number_in}
+use Rattle.tree_certificate.proofs.PartWalk.{PartAt-before, PartAt-self, UsefulPart-self, enough-first, enough-last}
+use Rattle.subset_tree.proofs.Sums.{fits-gains, fits-modest, raised-not_above, raised-not_below}
+use Rattle.tree_certificate.proofs.PartWalk.{enough-more, raised-as}
 use Rattle.subset_tree.proofs.table.greatest_sum.Goals as goal
 
 pub loop-part-init : goal.loop-part-init
@@ -25,7 +27,8 @@ loop-part-init c =
           (c.requires.gains.not_above 0)
           (c.requires.modest.not_above set) (omega arith);
       part = λ colours at. PartAt-self colours set at;
-      enough = λ colours at. enough-first numbers gains colours set c.raised-most.result at is;
+      enough = λ colours at. enough-first numbers gains colours set set
+          (UsefulPart-self numbers gains colours set at) c.raised-most.result at is;
     })
   where
     more : (number : ℤ) (set : ℕ) → number ≤ℤ pos (100000 * set) → number ≤ℤ pos (100000 * (set + 1))
@@ -57,10 +60,12 @@ loop-part-preserved c =
           (c.requires.modest.not_above (set - part)) (omega (arith, c.loop-part.invariant.within));
       part = λ colours at. PartAt-before colours set part at
           (c.loop-part.invariant.part colours at) c.loop-part-test.true;
-      enough = λ colours at. enough-more numbers gains colours set part before c.raised-most-in-loop-part.result at
+      enough = λ colours at. enough-more numbers gains colours set set part
+          (UsefulPart-self numbers gains colours set at) before c.raised-most-in-loop-part.result at
           (c.loop-part.invariant.part colours at) c.loop-part-test.true (c.loop-part.invariant.enough colours at) is;
     })
 
 pub returns-clause-enough : goal.returns-clause-enough
-returns-clause-enough c = λ colours at. enough-last c.args.numbers.now c.args.gains.now colours c.loop-part.part
+returns-clause-enough c = λ colours at. enough-last c.args.numbers.now c.args.gains.now colours c.args.set
+    c.loop-part.part (UsefulPart-self c.args.numbers.now c.args.gains.now colours c.args.set at)
     (to_z w64 c.loop-part.most-bits) (omega arith) (c.loop-part.invariant.enough colours at)

@@ -1,5 +1,5 @@
 use Rattle.std.proofs.Common.{◌≡◌, ◌≤◌, ◌+◌, ◌*◌, ◌↔◌, ℤ, pos, ◌≤ℤ◌, List, Bool}
-use Rattle.subset_tree.specs.inside.Filling.{IsEnoughAbove, PartAt}
+use Rattle.tree_certificate.specs.Enough.{IsEnoughAbove, PartAt}
 use Rattle.tree_certificate.specs.ColourSet.{place_of}
 use Rattle.subset_tree.proofs.table.greatest_sum.Given as goal
 
@@ -9,8 +9,8 @@ invariant-loop-part l = record {
   not_below : pos 0 ≤ℤ l.most;
   not_above : l.most ≤ℤ pos (100000 * (l.set + 1));
   part : (colours : List Bool) → place_of colours ≡ l.set → PartAt colours l.part;
-  enough : (colours : List Bool) → place_of colours ≡ l.set → (upper : ℤ)
-      → (l.most ≤ℤ upper) ↔ IsEnoughAbove l.numbers l.gains colours l.part upper;
+  enough : (colours : List Bool) → place_of colours ≡ l.set → (candidate : ℤ)
+      → (l.most ≤ℤ candidate) ↔ IsEnoughAbove l.numbers l.gains colours colours l.part candidate;
 }
 
 abbrev pub decreases-loop-part : goal.decreases-loop-part

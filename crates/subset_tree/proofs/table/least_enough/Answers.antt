@@ -1,6 +1,6 @@
 use Rattle.std.proofs.Common.{w64, ◌<◌, length, arith}
 use Rattle.std.proofs.lemmas.Int.{to_z-of_z}
-use Rattle.subset_tree.specs.inside.Filling.{number_in}
+use Rattle.tree_certificate.specs.Number.{number_in}
 use Rattle.subset_tree.proofs.Sums.{enough-none, fits-modest}
 use Rattle.subset_tree.proofs.table.least_enough.Goals as goal
 

@@ -1,8 +1,10 @@
 use Rattle.std.proofs.Common.{◌<◌, ℤ, length, arith, refl, w32, w64, ◌∙◌}
 use Rattle.std.proofs.Math.ListN.{length-set}
 use Rattle.std.proofs.lemmas.Int.{to_z-of_z}
-use Rattle.subset_tree.specs.inside.Filling.{IsRaised, number_in}
-use Rattle.subset_tree.proofs.Sums.{fits-gains, fits-modest, raised-as}
+use Rattle.tree_certificate.specs.Enough.{IsRaised}
+use Rattle.tree_certificate.specs.Number.{number_in}
+use Rattle.subset_tree.proofs.Sums.{fits-gains, fits-modest}
+use Rattle.tree_certificate.proofs.PartWalk.{raised-as}
 use Rattle.subset_tree.proofs.Widening.{gains-more, raised-more, rest-more}
 use Rattle.subset_tree.proofs.table.raise_gains.Goals as goal
 

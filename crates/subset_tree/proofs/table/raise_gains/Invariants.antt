@@ -1,5 +1,7 @@
 use Rattle.std.proofs.Common.{◌≡◌, ◌≤◌, ◌<◌, ℕ, length}
-use Rattle.subset_tree.specs.inside.Filling.{AreGains, IsRaised, number_in}
+use Rattle.tree_certificate.specs.Enough.{IsRaised}
+use Rattle.tree_certificate.specs.Number.{number_in}
+use Rattle.subset_tree.specs.inside.Filling.{AreGains}
 use Rattle.subset_tree.proofs.table.raise_gains.Given as goal
 
 abbrev pub invariant-loop-place : goal.invariant-loop-place

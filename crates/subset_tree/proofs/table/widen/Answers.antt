@@ -1,7 +1,7 @@
 use Rattle.std.proofs.Common.{◌≡◌, ◌+◌, ◌-◌, ◌*◌, ◌<◌, ℤ, length, slice_set, arith, refl, to_z, of_z, w64, ◌∙◌}
 use Rattle.std.proofs.Math.ListN.{length-set}
 use Rattle.std.proofs.lemmas.Int.{to_z-of_z}
-use Rattle.subset_tree.specs.inside.Filling.{number_in}
+use Rattle.tree_certificate.specs.Number.{number_in}
 use Rattle.subset_tree.proofs.Sums.{fits-modest}
 use Rattle.subset_tree.proofs.Widening.{IsSpread, IsSpread-set, below-spread, grown-spread, kept-spread, modest-spread}
 use Rattle.subset_tree.proofs.Widening.{number_in-other}

@@ -1,5 +1,7 @@
 use Rattle.std.proofs.Common.{◌≡◌, ◌≤◌, ◌<◌, ◌+◌, ◌*◌, ◌↔◌, ℕ, ℤ, ◌≤ℤ◌, List, Bool, length}
-use Rattle.subset_tree.specs.inside.Filling.{AreModest, IsEnough, number_in}
+use Rattle.tree_certificate.specs.Enough.{IsEnough}
+use Rattle.tree_certificate.specs.Number.{number_in}
+use Rattle.subset_tree.specs.inside.Filling.{AreModest}
 use Rattle.tree_certificate.specs.ColourSet.{place_of}
 use Rattle.subset_tree.proofs.table.widen.Given as goal
 

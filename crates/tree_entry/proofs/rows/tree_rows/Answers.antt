@@ -61,7 +61,7 @@ row_of-row-requires-clause-rises c =
 
 pub row_of-row-requires-clause-reached : goal.row_of-row-requires-clause-reached
 row_of-row-requires-clause-reached c =
-    let is_graph = rw (ap (λ built. built.graph) c.built.view_is) at c.edge_count-count.ensures.is_graph in
+    let is_graph = rw (ap (λ built. built.graph) c.built.view_is) at c.is_graph.ensures in
     let reached = reached_by_row c.args.built.now.graph c.loop-edge.rows.items c.args.edges.now c.loop-edge.edge-index
     is_graph in
     rw c.deref.ensures.value (reached c.requires.colourful c.requires.rising c.loop-edge.invariant.edges

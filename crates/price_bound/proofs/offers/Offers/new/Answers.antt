@@ -13,7 +13,7 @@ use Rattle.price_bound.proofs.offers.Offers.new.Goals as goal
 
 pub sum-requires-clause-few : goal.sum-requires-clause-few
 sum-requires-clause-few c =
-    let colours = c.edge_count-edges.ensures.is_graph.colours in
+    let colours = c.is_graph.ensures.colours in
     rw (c.deref.ensures.value, c.in_ok-prices.ensures.weights, best-length c.args.graph.now c.args.allowed.now)
     (omega (arith, colours-few c.args.graph.now colours, colours.few))
 
@@ -23,7 +23,7 @@ sum-requires-clause-near c = rw c.deref.ensures.value
 
 pub overflow_add-total : goal.overflow_add-total
 overflow_add-total c =
-    let colours = c.edge_count-edges.ensures.is_graph.colours in
+    let colours = c.is_graph.ensures.colours in
     let weights = c.in_ok-prices.prices.items in
     let long : length weights ≡ colour_count c.args.graph.now =
     rw c.in_ok-prices.ensures.weights (best-length c.args.graph.now c.args.allowed.now) in
@@ -39,7 +39,7 @@ pub returns : goal.returns
 returns c =
     let graph = c.args.graph.now in
     let allowed = c.args.allowed.now in
-    let colours = c.edge_count-edges.ensures.is_graph.colours in
+    let colours = c.is_graph.ensures.colours in
     let weights = c.in_ok-prices.prices.items in
     let long : length weights ≡ colour_count graph = rw c.in_ok-prices.ensures.weights (best-length graph allowed) in
     let few : length weights ≤ 4096 = omega (arith, colours-few graph colours, colours.few) in

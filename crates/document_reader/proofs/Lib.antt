@@ -1,0 +1,14 @@
+mod Known
+mod WholeLines
+mod Needs
+mod Running
+mod Finishing
+mod Refusing
+mod Sequence
+mod Whole
+mod Sides
+mod Plain
+mod Apart
+mod OneReading
+mod SomeReading
+mod SmallCerts

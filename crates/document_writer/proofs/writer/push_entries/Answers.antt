@@ -1,0 +1,11 @@
+use Rattle.std.proofs.Common.{length}
+use Rattle.tree_document.specs.Document.{entry_lines}
+use Rattle.tree_document.specs.Line as spec
+use Rattle.document_writer.proofs.TextOf.{head_and_groups}
+use Rattle.document_writer.proofs.writer.push_entries.Goals as goal
+
+pub returns : goal.returns
+returns c =
+    head_and_groups c.args.text.now.items c.push_counted.new.text.items c.push_each_entry.new.text.items
+    (spec.entries_line (length c.args.entries.now)) entry_lines c.args.entries.now
+    c.in_ok-push_counted.ensures c.in_ok-push_each_entry.ensures

@@ -1,0 +1,9 @@
+mod Digits
+mod Tokens
+mod FieldKinds
+mod Titles
+mod TokenLists
+mod NumberLists
+mod ShortNumbers
+mod FieldValues
+mod Shapes

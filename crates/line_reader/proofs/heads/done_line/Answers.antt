@@ -1,0 +1,17 @@
+use Rattle.std.proofs.Common.{None, refl, ap}
+use Rattle.tree_document.specs.Line as spec
+use Rattle.line_fields.specs.Need.{need_done, or_else}
+use Rattle.line_reader.proofs.FirstLines.{head_bad, head_end, head_took}
+use Rattle.line_reader.proofs.heads.done_line.Goals as goal
+
+pub returns-in_default : goal.returns-in_default
+returns-in_default c = head_end need_done c.args.bytes.now c.in_default.ensures
+
+pub returns-in_default-done : goal.returns-in_default-done
+returns-in_default-done c =
+    head_bad need_done c.args.bytes.now c.in-Some.line.now c.in-Some.rest.now c.in-Some.ensures
+    (ap (λ o. or_else o None) c.in_default-done.ensures)
+
+pub returns : goal.returns
+returns c = head_took c.a_line_has_one_spelling.ensures need_done c.args.bytes.now c.in-Some.line.now c.in-Some.rest.now
+    (spec.done_line) c.in-Some.ensures (ap (λ o. or_else o None) c.in-Some-done.ensures) refl

@@ -1,0 +1,4 @@
+pub mod Verdict
+pub mod Taking
+pub mod Head
+pub mod inside
