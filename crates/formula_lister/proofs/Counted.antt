@@ -7,7 +7,7 @@ use Rattle.element_table.specs.Elements.{element_count, greatest_count, heaviest
 use Rattle.element_table.specs.Window.{greatest_half_width}
 use Rattle.element_table.specs.Formula.{IsFormula}
 use Rattle.formula_lister.specs.declared.element.Element.{Element}
-use Rattle.formula_lister.specs.inside.Elements.{AreElements, IsUncounted, reach_of}
+use Rattle.formula_lister.specs.inside.Elements.{AreElements, ArePaired, IsUncounted, first_mass, reach_of}
 
 -- the elements of positive limit below a place
 pub record AreCounted (limits : List ℕ) (place after : ℕ) (elements : List Element) : Type 0 where
@@ -22,6 +22,17 @@ lower_more : (place : ℕ) (elements : List Element) → AllByRecursion (λ elem
     → AllByRecursion (λ element. element.place < place + 1) elements
 lower_more place [] lower = tt
 lower_more place (element ∷ elements) lower = (omega (arith, lower.0), lower_more place elements lower.1)
+
+-- the mass of the first of them is an atom's
+pub first_mass-heavy : (limits : List ℕ) (elements : List Element) (mass : ℕ) → AreElements limits elements
+    → 2 * greatest_half_width < mass → 2 * greatest_half_width < first_mass elements mass
+first_mass-heavy limits [] mass known heavy = heavy
+first_mass-heavy limits (element ∷ elements) mass known heavy = known.0.known.heavy
+
+pub first_mass-light : (limits : List ℕ) (elements : List Element) (mass : ℕ) → AreElements limits elements
+    → mass ≤ heaviest_atom → first_mass elements mass ≤ heaviest_atom
+first_mass-light limits [] mass known light = light
+first_mass-light limits (element ∷ elements) mass known light = known.0.known.light
 
 -- an element without a positive limit is not counted
 pub AreCounted-without : (limits : List ℕ) (place after : ℕ) (elements : List Element) → IsFormula limits
@@ -43,9 +54,10 @@ AreCounted-without limits place after elements formula none h = record {
 pub AreCounted-with : (limits : List ℕ) (element : Element) (elements : List Element) → IsFormula limits
     → element.place < element_count → element.mass ≡ slice_index masses element.place
     → 2 * greatest_half_width < element.mass → element.mass ≤ heaviest_atom → element.limit
-    ≡ slice_index limits element.place → AreCounted limits element.place element.after elements
+    ≡ slice_index limits element.place → element.divisor.number ≡ element.mass
+    → ArePaired element.mass (first_mass elements element.mass) element.levels → AreCounted limits element.place element.after elements
     → AreCounted limits (element.place + 1) (element.after + element.limit * element.mass) (element ∷ elements)
-AreCounted-with limits element elements formula inside weighed heavy light limited h =
+AreCounted-with limits element elements formula inside weighed heavy light limited divided paired h =
     let capped : element.limit ≤ greatest_count = omega (arith, formula.capped element.place) in
     let bound : element.limit * element.mass ≤ greatest_count * heaviest_atom = mul-le _ _ _ _ capped light in
     record {
@@ -57,10 +69,12 @@ AreCounted-with limits element elements formula inside weighed heavy light limit
             heavy = heavy;
             light = light;
             capped = capped;
+            divided = divided;
             reach = omega (arith, h.small);
           };
           limited = limited;
           reach = h.reach;
+          paired = paired;
           falling = h.lower;
         },
         h.known,

@@ -1,7 +1,9 @@
+pub mod Dividing
 pub mod WeightedSum
 pub mod Gaining
 pub mod Fitting
 pub mod Counted
+pub mod Leveled
 pub mod Completing
 pub mod Pairs
 pub mod Listing

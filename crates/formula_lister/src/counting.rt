@@ -1,11 +1,13 @@
-//! Lists the formulas of a window by plain counting: over every element but the last as far as the masses and the
-//! limits allow, with the count of the last one computed.
-ghost use Rattle.std.specs.Prelude.{◌≡◌, ◌≤◌, ◌<◌, ◌+◌, ◌^◌, [], ◌∷◌, Err, length, slice_set, OnOk};
+//! Lists the formulas of a window: counts over every element but the last two as far as the masses and the limits
+//! allow, and goes over the counts of these by their levels.
+ghost use Rattle.std.specs.Prelude.{◌≡◌, ◌≤◌, ◌*◌, [], ◌∷◌, Err, length, slice_set, OnOk};
 ghost use Rattle.element_table.specs.FormulaList.{greatest_list};
-ghost use Rattle.formula_lister.specs.inside.Counting.{Completes, Gains, Overfills, IsOne, IsReady, IsLeftOver};
+ghost use Rattle.formula_lister.specs.inside.Counting.{Completes, Gains, Overfills, IsOne, IsReady};
+ghost use Rattle.formula_lister.specs.inside.Levels.{IsLevel};
 
 use crate::chosen::{Bounds, Chosen};
 use crate::element::Element;
+use crate::levels::Rest;
 use crate::outcome::{GREATEST_LIST, ListFault};
 use element_table::Formula;
 use valence_filter::Sieve;
@@ -15,26 +17,6 @@ use valence_filter::Sieve;
 pub(crate) struct Lister<'a> {
     pub sieve: &'a Sieve,
     pub bounds: Bounds,
-}
-
-/// The last two elements, which are counted together: a count of the next one leaves at most one count of the last.
-#[derive(Clone, Copy)]
-struct Pair {
-    next: Element,
-    last: Element,
-}
-
-/// What a mass leaves over its atoms of an element, less a part that leaves so much itself.
-#[inline]
-fn left_over(over: u64, part: u64, atom: u64) -> u64
-    requires light { atom < 2 ^ 32 }
-    requires over { over < atom }
-    requires part { part < atom }
-    ensures enough { part ≤ over → result + part ≡ over }
-    ensures borrowed { over < part → result + part ≡ over + atom }
-{
-    // Where less is left over than the part, the first difference wraps round and is the greater one.
-    over.wrapping_sub(part).min(over + (atom - part))
 }
 
 impl Lister<'_> {
@@ -76,72 +58,70 @@ impl Lister<'_> {
         self.add(list, &chosen.formula)
     }
 
-    /// Lists the formula that has the chosen counts, a count of the pair's next element, and the only count of its last
-    /// one that may reach the window. So much is `over` of the greatest mass as is left beside whole atoms of the last.
+    /// Lists the formula that has the chosen counts, that of a rest, and of the last element those that its level has
+    /// beside it, if it reaches the window.
     #[inline]
-    fn list_last(
+    fn list_rest(
         &self,
         list: &mut Vec<Formula>,
         chosen: &Chosen,
-        pair: &Pair,
-        count: u64,
-        over: u64,
+        next: &Element,
+        last: &Element,
+        rest: &Rest,
     ) -> Result<(), ListFault>
         requires few { length list.old.items ≤ greatest_list }
-        requires left { IsLeftOver self.now.bounds pair.now.next pair.now.last chosen.now.formula count over }
+        requires ready { IsReady self.now.bounds (next.now ∷ last.now ∷ []) chosen.now.formula }
+        requires level { IsLevel self.now.bounds.most chosen.now.mass next.now last.now rest.now }
+        requires within_limit { rest.now.count ≤ next.now.limit }
+        requires reached { next.now.levels.per * rest.now.count ≤ rest.now.level }
         ensures gains { OnOk result
             (Gains (Completes self.now.bounds self.now.sieve.now.rules.items
-            (pair.now.last ∷ []) (slice_set chosen.now.formula pair.now.next.place count))
+            (last.now ∷ []) (slice_set chosen.now.formula next.now.place rest.now.count))
             list.old.items list.new.items) }
         ensures few { length list.new.items ≤ greatest_list }
         ensures too_many { result ≡ Err ListFault.TooMany
             → Overfills (Completes self.now.bounds self.now.sieve.now.rules.items
-            (pair.now.last ∷ []) (slice_set chosen.now.formula pair.now.next.place count))
+            (last.now ∷ []) (slice_set chosen.now.formula next.now.place rest.now.count))
             list.old.items }
     {
-        if over > self.bounds.most - self.bounds.least {
+        if rest.over > self.bounds.most - self.bounds.least {
             return Ok(());
         }
-        let atoms = (self.bounds.most - chosen.mass - count * pair.next.mass) / pair.last.mass;
-        if atoms > pair.last.limit {
+        let atoms = rest.level - next.levels.per * rest.count;
+        if atoms > last.limit {
             return Ok(());
         }
-        let formula = chosen.formula.with(pair.next.place, count as u16);
-        self.add(list, &formula.with(pair.last.place, atoms as u16))
+        let formula = chosen.formula.with(next.place, rest.count as u16);
+        self.add(list, &formula.with(last.place, atoms as u16))
     }
 
-    /// Lists the formulas that have the chosen counts and any allowed counts of a pair of elements.
+    /// Lists the formulas that have the chosen counts and any allowed counts of the last two elements.
+    #[inline(always)]
     fn list_pair(
         &self,
         list: &mut Vec<Formula>,
         chosen: &Chosen,
-        pair: &Pair,
+        next: &Element,
+        last: &Element,
     ) -> Result<(), ListFault>
         requires few { length list.old.items ≤ greatest_list }
-        requires ready { IsReady self.now.bounds (pair.now.next ∷ pair.now.last ∷ []) chosen.now.formula }
+        requires ready { IsReady self.now.bounds (next.now ∷ last.now ∷ []) chosen.now.formula }
         requires light { chosen.now.mass ≤ self.now.bounds.most }
         ensures gains { OnOk result
             (Gains (Completes self.now.bounds self.now.sieve.now.rules.items
-            (pair.now.next ∷ pair.now.last ∷ []) chosen.now.formula)
+            (next.now ∷ last.now ∷ []) chosen.now.formula)
             list.old.items list.new.items) }
         ensures few { length list.new.items ≤ greatest_list }
         ensures too_many { result ≡ Err ListFault.TooMany
             → Overfills (Completes self.now.bounds self.now.sieve.now.rules.items
-            (pair.now.next ∷ pair.now.last ∷ []) chosen.now.formula)
+            (next.now ∷ last.now ∷ []) chosen.now.formula)
             list.old.items }
     {
-        let first = pair.next.least_count(chosen.mass, self.bounds.least);
-        let end = pair.next.count_end(chosen.mass, self.bounds.most);
-        if first >= end {
-            return Ok(());
-        }
-        // What is left over begins one step before the first count, so that no step is taken after the last.
-        let step = pair.next.mass % pair.last.mass;
-        let most = self.bounds.most - chosen.mass - first * pair.next.mass;
-        let mut over = (most + pair.next.mass) % pair.last.mass;
-        for count in first..end {
-            over = left_over(over, step, pair.last.mass);
-            self.list_last(list, chosen, pair, count, over)?;
+        let width = self.bounds.most - self.bounds.least;
+        let mut rest = Rest::first(&self.bounds, chosen.mass, next, last);
+        while rest.count <= next.limit && next.levels.per * rest.count <= rest.level {
+            self.list_rest(list, chosen, next, last, &rest)?;
+            rest = rest.next(next, last, width);
         }
         Ok(())
     }
@@ -165,11 +145,7 @@ impl Lister<'_> {
             list.old.items }
     {
         if let [next, last] = elements {
-            let pair = Pair {
-                next: *next,
-                last: *last,
-            };
-            return self.list_pair(list, chosen, &pair);
+            return self.list_pair(list, chosen, next, last);
         }
         let Some((first, others)) = elements.split_first() else {
             return self.list_chosen(list, chosen);

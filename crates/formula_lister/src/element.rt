@@ -1,8 +1,10 @@
 //! The elements that are counted: those with a positive limit.
 ghost use Rattle.std.specs.Prelude.{◌≡◌, ◌≤◌, ◌<◌, ◌+◌, ◌*◌, ◌^◌, ◌↔◌, ℕ, length, slice_index, IfOk};
 ghost use Rattle.element_table.specs.Elements.{formula_places};
-ghost use Rattle.formula_lister.specs.inside.Elements.{AreElements, IsUncounted, IsKnown};
+ghost use Rattle.formula_lister.specs.inside.Elements.{AreElements, IsUncounted, IsKnown, first_mass};
 
+use crate::divisor::Divisor;
+use crate::levels::Levels;
 use element_table::{ELEMENTS, Limits, mass_at};
 use std::alloc::{AllocError, Global};
 
@@ -17,6 +19,10 @@ pub(crate) struct Element {
     pub limit: u64,
     /// The greatest mass that the elements counted after this one have together.
     pub after: u64,
+    /// Its mass, to divide by.
+    pub divisor: Divisor,
+    /// What it is in atoms of the element counted after it.
+    pub levels: Levels,
 }
 
 impl Element {
@@ -26,11 +32,11 @@ impl Element {
     pub fn least_count(&self, chosen: u64, least: u64) -> u64
         requires known { IsKnown self.now }
         requires light { chosen ≤ 10 ^ 11 }
+        requires least { least ≤ 10 ^ 11 }
         ensures { (count : ℕ) → (result ≤ count) ↔ (least ≤ chosen + count * self.now.mass + self.now.after) }
     {
-        least
-            .saturating_sub(chosen + self.after)
-            .div_ceil(self.mass)
+        self.divisor
+            .rounded_up(least.saturating_sub(chosen + self.after))
     }
 
     /// One more than the greatest count that the limit and the greatest mass allow beside the chosen mass.
@@ -41,7 +47,17 @@ impl Element {
         ensures { (count : ℕ) → (count < result)
             ↔ ((count ≤ self.now.limit) × (chosen + count * self.now.mass ≤ most)) }
     {
-        self.limit.min((most - chosen) / self.mass) + 1
+        self.limit.min(self.divisor.quotient(most - chosen)) + 1
+    }
+}
+
+/// The mass of the first of some elements, or another where there is none.
+fn first_mass(elements: &[Element], mass: u64) -> u64
+    ensures { result ≡ first_mass elements.now mass }
+{
+    match elements.first() {
+        Some(first) => first.mass,
+        None => mass,
     }
 }
 
@@ -59,6 +75,7 @@ pub(crate) fn counted_elements(alloc: Global, limits: &Limits) -> Result<Vec<Ele
         let limit = u64::from(limits.at(place));
         if limit > 0 {
             let mass = mass_at(place);
+            let levels = Levels::of(mass, first_mass(elements.as_slice(), mass));
             elements.insert(
                 0,
                 Element {
@@ -66,6 +83,8 @@ pub(crate) fn counted_elements(alloc: Global, limits: &Limits) -> Result<Vec<Ele
                     mass,
                     limit,
                     after,
+                    divisor: Divisor::of(mass),
+                    levels,
                 },
             )?;
             after += limit * mass;

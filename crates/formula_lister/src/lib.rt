@@ -3,7 +3,9 @@
 
 mod chosen;
 mod counting;
+mod divisor;
 mod element;
+mod levels;
 mod lister;
 mod outcome;
 

@@ -11,4 +11,5 @@ pub mod WalkLaws
 pub mod AnswerLaws
 pub mod Examples
 pub mod ScoreLaws
+pub mod ShareLaws
 pub mod ProfileLaws

@@ -1,9 +1,9 @@
 //! The places of a profile text, in the order of the walk.
-ghost use Rattle.std.specs.Prelude.{◌≡◌, ◌++◌, [], IfOk, OnOk, option_map, codes};
+ghost use Rattle.std.specs.Prelude.{◌≡◌, ◌++◌, [], IfOk, OnOk, option_map, codes, decimal};
 ghost use Rattle.profile.specs.Losses.{is_free, key_formula, taken_by, taken_with};
 ghost use Rattle.profile.specs.Places as spec;
-ghost use Rattle.profile.specs.Form.{taken_at};
-ghost use Rattle.profile.specs.inside.Searched.{known_seen, losses_seen, places_seen};
+ghost use Rattle.profile.specs.Form.{loss, taken_at};
+ghost use Rattle.profile.specs.inside.Searched.{known_seen, losses_seen, one_place, places_seen};
 ghost use Rattle.profile.specs.inside.Seen.{form_seen};
 ghost use Rattle.profile.specs.Table as said;
 ghost use Rattle.toml.specs.View.{view, array_view, table_view};
@@ -71,15 +71,9 @@ fn add_keys<'a>(
         ++ spec.places_of_keys (known_seen walk.now) (form_seen form) before.now (table_view table.now)) }
 {
     'keys: for (key, value) in table.iter() {
-        let name = joined(alloc, before, key.as_bytes())?;
-        add_place(
-            alloc,
-            walk,
-            value,
-            form.at(walk.elements, key.as_str()),
-            name,
-            places,
-        )?;
+        let own = form.at(walk.elements, key.as_str());
+        let under = add_place(alloc, before, key.as_bytes(), own, value, places)?;
+        add_under(alloc, walk, value, own, &under, places)?;
     }
     Ok(())
 }
@@ -98,63 +92,134 @@ fn add_items<'a>(
         ++ spec.places_of_items (known_seen walk.now) (form_seen form) before.now 0 (array_view items.now)) }
 {
     'items: for (number, item) in items.iter().enumerate() {
-        let step = number.to_string(alloc)?;
-        let name = joined(alloc, before, step.as_bytes())?;
-        add_place(alloc, walk, item, form.of_item(number), name, places)?;
+        let own = form.of_item(number);
+        let under = add_numbered(alloc, before, number, own, item, places)?;
+        add_under(alloc, walk, item, own, &under, places)?;
     }
     Ok(())
 }
 
-/// Adds a place of this name and all that stands under it.
+/// Adds all that stands under a value of some form.
 #[cycle(walk)]
-fn add_place<'a>(
+fn add_under<'a>(
     alloc: Global,
     walk: &Walk<'a>,
     value: &'a Value,
     form: Form,
-    name: Vec<u8>,
+    before: &[u8],
     places: &mut Vec<Place<'a>>,
 ) -> Result<(), AllocError>
     ensures { OnOk result (places_seen places.new.items ≡ places_seen places.old.items
-        ++ spec.place_with (known_seen walk.now) (form_seen form) name.items (view value.now)) }
+        ++ spec.places_under (known_seen walk.now) (form_seen form) before.now (view value.now)) }
 {
-    let under = with_point(alloc, &name)?;
-    places.push(Place { name, form, value })?;
     match value {
         Value::Table(table) => {
             if form.has_keys() {
-                add_keys(alloc, walk, table, form, &under, places)?;
-            } else if let Some(taken) = taken_for(alloc, walk, form)? {
-                add_losses(alloc, table, taken, &under, places)?;
+                add_keys(alloc, walk, table, form, before, places)
+            } else {
+                add_loss_table(alloc, walk, table, form, before, places)
             }
         }
         Value::Array(items) => {
             if form.has_items() {
-                add_items(alloc, walk, items, form, &under, places)?;
+                add_items(alloc, walk, items, form, before, places)
+            } else {
+                Ok(())
             }
         }
-        _ => {}
+        _ => Ok(()),
     }
-    Ok(())
+}
+
+/// Adds the place of an item of an array, and gives what stands before the names of what is under it.
+fn add_numbered<'a>(
+    alloc: Global,
+    before: &[u8],
+    number: usize,
+    form: Form,
+    value: &'a Value,
+    places: &mut Vec<Place<'a>>,
+) -> Result<Vec<u8>, AllocError>
+    ensures under { IfOk result (λ under. under.items ≡ spec.point_after (before.now ++ decimal number)) }
+    ensures added { OnOk result (places_seen places.new.items ≡ places_seen places.old.items
+        ++ one_place (before.now ++ decimal number) (form_seen form) (view value.now)) }
+{
+    let step = number.to_string(alloc)?;
+    add_place(alloc, before, step.as_bytes(), form, value, places)
+}
+
+/// Adds a place, and gives what stands before the names of what is under it.
+fn add_place<'a>(
+    alloc: Global,
+    before: &[u8],
+    step: &[u8],
+    form: Form,
+    value: &'a Value,
+    places: &mut Vec<Place<'a>>,
+) -> Result<Vec<u8>, AllocError>
+    ensures under { IfOk result (λ under. under.items ≡ spec.point_after (before.now ++ step.now)) }
+    ensures added { OnOk result (places_seen places.new.items ≡ places_seen places.old.items
+        ++ one_place (before.now ++ step.now) (form_seen form) (view value.now)) }
+{
+    let name = joined(alloc, before, step)?;
+    let under = with_point(alloc, &name)?;
+    places.push(Place { name, form, value })?;
+    Ok(under)
+}
+
+/// Adds the keys of a table of losses, where a table of this form is one.
+fn add_loss_table<'a>(
+    alloc: Global,
+    walk: &Walk<'a>,
+    table: &'a Table,
+    form: Form,
+    before: &[u8],
+    places: &mut Vec<Place<'a>>,
+) -> Result<(), AllocError>
+    ensures { OnOk result (places_seen places.new.items ≡ places_seen places.old.items
+        ++ spec.places_where_taken (taken_at (known_seen walk.now) (form_seen form)) before.now
+        (table_view table.now)) }
+{
+    match taken_for(alloc, walk, form)? {
+        Some(mut taken) => add_losses(alloc, table, &mut taken, before, places),
+        None => Ok(()),
+    }
 }
 
 /// Adds the keys of a table of losses, none of which may be one that is taken.
 fn add_losses<'a>(
     alloc: Global,
     table: &'a Table,
-    mut taken: IndexSet<Formula>,
+    taken: &mut IndexSet<Formula>,
     before: &[u8],
     places: &mut Vec<Place<'a>>,
 ) -> Result<(), AllocError>
     ensures { OnOk result (places_seen places.new.items ≡ places_seen places.old.items
-        ++ spec.places_of_losses taken.keys before.now (table_view table.now)) }
+        ++ spec.places_of_losses taken.old.keys before.now (table_view table.now)) }
 {
     for (key, value) in table.iter() {
-        let is_free = take(&mut taken, key.as_str())?;
-        let name = joined(alloc, before, key.as_bytes())?;
-        let form = Form::Loss(is_free);
-        places.push(Place { name, form, value })?;
+        add_loss(alloc, key.as_str(), value, taken, before, places)?;
     }
+    Ok(())
+}
+
+/// Adds the place of a loss, which is taken from then on.
+fn add_loss<'a>(
+    alloc: Global,
+    key: &str,
+    value: &'a Value,
+    taken: &mut IndexSet<Formula>,
+    before: &[u8],
+    places: &mut Vec<Place<'a>>,
+) -> Result<(), AllocError>
+    ensures taken { OnOk result (taken.new.keys ≡ taken_with taken.old.keys (key_formula key.now)) }
+    ensures added { OnOk result (places_seen places.new.items ≡ places_seen places.old.items
+        ++ one_place (before.now ++ key.now) (loss (is_free taken.old.keys (key_formula key.now)))
+        (view value.now)) }
+{
+    let form = Form::Loss(take(taken, key)?);
+    let name = joined(alloc, before, key.as_bytes())?;
+    places.push(Place { name, form, value })?;
     Ok(())
 }
 
@@ -178,21 +243,21 @@ fn taken_for(
 fn gathered(alloc: Global, table: Option<&Table>) -> Result<IndexSet<Formula>, AllocError>
     ensures { IfOk result (λ taken. taken.keys ≡ losses_seen table.entry) }
 {
-    match table {
-        Some(table) => losses_in(alloc, table),
-        None => Ok(IndexSet::new(alloc)),
-    }
-}
-
-/// The losses of a table, in the order of its keys.
-fn losses_in(alloc: Global, table: &Table) -> Result<IndexSet<Formula>, AllocError>
-    ensures { IfOk result (λ taken. taken.keys ≡ taken_by [] (table_view table.now)) }
-{
     let mut taken = IndexSet::new(alloc);
-    for (key, _) in table.iter() {
-        let _ = take(&mut taken, key.as_str())?;
+    if let Some(table) = table {
+        take_all(table, &mut taken)?;
     }
     Ok(taken)
+}
+
+/// Takes the losses of a table, in the order of its keys.
+fn take_all(table: &Table, taken: &mut IndexSet<Formula>) -> Result<(), AllocError>
+    ensures { OnOk result (taken.new.keys ≡ taken_by taken.old.keys (table_view table.now)) }
+{
+    for (key, _) in table.iter() {
+        let _ = take(taken, key.as_str())?;
+    }
+    Ok(())
 }
 
 /// Takes the formula of a key, where it is one. Whether it is a loss that was free before.

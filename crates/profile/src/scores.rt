@@ -139,9 +139,17 @@ fn losses_of(alloc: Global, table: &Table) -> Result<Vec<(Formula, i16)>, AllocE
 {
     let mut losses = Vec::new(alloc);
     for (key, value) in table.iter() {
-        losses.push((loss_of(key.as_str()), score_in(value)))?;
+        losses.push(entry_of(key.as_str(), value))?;
     }
     Ok(losses)
+}
+
+/// The loss of a key, and its score.
+fn entry_of(key: &str, value: &Value) -> (Formula, i16)
+    requires { IsNearZero greatest_score (unwrap_or (as_integer (view value.now)) (pos 0)) }
+    ensures { result ≡ spec.loss_said key.now (view value.now) }
+{
+    (loss_of(key), score_in(value))
 }
 
 /// The loss of a key.

@@ -24,11 +24,6 @@ pub record IsRest (bounds : Bounds) (next last : Element) (chosen : List ℕ) (c
   pub parts : bounds.most ≡ mass_of chosen + count * next.mass + (atoms * last.mass + over)
   pub small : over < last.mass
 
--- so much of the rest is left over its atoms, however many they are
-pub record IsLeftOver (bounds : Bounds) (next last : Element) (chosen : List ℕ) (count over : ℕ) : Type 0 where
-  pub atoms : ℕ
-  pub rest : IsRest bounds next last chosen count atoms over
-
 -- a formula that the bounds and the rules allow
 pub record IsCandidate (bounds : Bounds) (rules : List Rule) (counts : List ℕ) : Type 0 where
   pub places : length counts ≡ formula_places

@@ -1,13 +1,13 @@
 -- What the program walks with, and its places, as the definitions see them; and what a search of them finds.
-use Rattle.std.specs.Prelude.{◌≡◌, ℕ, List, [], Option, Some, None, Result, Ok, Err, String, map, option_map, unwrap_or}
-use Rattle.std.specs.Prelude.{⊤}
+use Rattle.std.specs.Prelude.{◌≡◌, ℕ, List, [], ◌∷◌, Option, Some, None, Result, Ok, Err, String, map, option_map}
+use Rattle.std.specs.Prelude.{unwrap_or, ⊤}
 use Rattle.std.specs.Borrow.{Bor}
 use Rattle.std.specs.BTreeMap.{BTreeMap}
 use Rattle.std.specs.declared.alloc.Global.{Global}
-use Rattle.toml.specs.Data.{no_members}
+use Rattle.toml.specs.Data.{Data, no_members}
 use Rattle.toml.specs.View.{view, table_view}
 use Rattle.toml.specs.declared.value.Value.{Value}
-use Rattle.profile.specs.Form.{Known}
+use Rattle.profile.specs.Form.{Form, Known}
 use Rattle.profile.specs.Losses.{taken_by}
 use Rattle.profile.specs.declared.places.Walk.{Walk}
 use Rattle.profile.specs.inside.Seen.{form_seen}
@@ -32,6 +32,10 @@ place_seen place = record { name = place.name.items; form = form_seen place.form
 
 abbrev pub places_seen : List Place → List spec.Place
 places_seen places = map place_seen places
+
+-- a place of this name, form and value alone
+abbrev pub one_place : List ℕ → Form → Data → List spec.Place
+one_place name form value = record { name = name; form = form; value = value } ∷ []
 
 -- what each search looks for
 abbrev pub fault_at : Sought → spec.Place → Option ProfileFault

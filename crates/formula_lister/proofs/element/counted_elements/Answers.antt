@@ -13,7 +13,9 @@ loop-place-preserved c =
           rw (w.after-is, w.elements-is, w.in_ok-insert.ensures.items)
           (AreCounted-with limits _ c.loop-place.elements.items c.at.ensures.limits (omega arith)
           w.mass_at-mass.ensures.mass w.mass_at-mass.ensures.heavy w.mass_at-mass.ensures.light
-          (omega (arith, c.at.ensures.count)) c.loop-place.invariant)
+          (omega (arith, c.at.ensures.count)) w.of.ensures
+          (rw (w.first_mass.ensures, w.as_slice.ensures.value) at w.of-levels.ensures)
+          c.loop-place.invariant)
       | else-limit-gt0 w ↦
           rw (w.after-is, w.elements-is)
           (AreCounted-without limits place c.loop-place.after c.loop-place.elements.items c.at.ensures.limits

@@ -8,7 +8,7 @@ use Rattle.profile.proofs.places.+walk.Given as goal
 abbrev pub invariant-add_items-items : goal.invariant-add_items-items
 invariant-add_items-items l =
     places_seen l.places.items ++ places_of_items (known_seen l.fn.walk)
-    (form_seen l.fn.form) l.fn.before l.number-counter (items_view (drop l.number-counter l.item-items))
+    (form_seen l.fn.form) l.fn.before l.number (items_view (drop l.number l.item-items))
     ≡ places_seen l.fn.places.items ++ places_of_items (known_seen l.fn.walk) (form_seen l.fn.form) l.fn.before 0
     (items_view l.item-items)
 

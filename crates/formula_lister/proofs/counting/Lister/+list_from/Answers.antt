@@ -13,7 +13,8 @@ use Rattle.formula_lister.proofs.counting.Lister.+list_from.Goals as goal
 
 pub list_pair-requires-clause-ready : goal.list_pair-requires-clause-ready
 list_pair-requires-clause-ready g t c =
-    let same = two_elements c.args.elements.now c.in-len2.len_at_least c.in-len2.len_below in
+    let same = two_elements c.args.elements.now c.next-item.result c.last-item.result c.next-item.is c.last-item.is
+    c.in-len2.len_at_least c.in-len2.len_below in
     subst (λ (l : List Element). IsReady c.args.self.now.bounds l c.args.chosen.now.formula) (sym same)
     c.requires.ready
 
@@ -21,7 +22,8 @@ pub returns-in-len2-clause-gains : goal.returns-in-len2-clause-gains
 returns-in-len2-clause-gains g t c =
     let bounds = c.args.self.now.bounds in
     let rules = c.args.self.now.sieve.now.rules.items in
-    let same = two_elements c.args.elements.now c.in-len2.len_at_least c.in-len2.len_below in
+    let same = two_elements c.args.elements.now c.next-item.result c.last-item.result c.next-item.is c.last-item.is
+    c.in-len2.len_at_least c.in-len2.len_below in
     subst (λ (l : List Element). OnOk c.list_pair.result
     (Gains (Completes bounds rules l c.args.chosen.now.formula) c.args.list.now.items c.list_pair.new.list.items))
     same c.list_pair.ensures.gains
@@ -30,7 +32,8 @@ pub returns-in-len2-clause-too_many : goal.returns-in-len2-clause-too_many
 returns-in-len2-clause-too_many g t c =
     let bounds = c.args.self.now.bounds in
     let rules = c.args.self.now.sieve.now.rules.items in
-    let same = two_elements c.args.elements.now c.in-len2.len_at_least c.in-len2.len_below in
+    let same = two_elements c.args.elements.now c.next-item.result c.last-item.result c.next-item.is c.last-item.is
+    c.in-len2.len_at_least c.in-len2.len_below in
     subst (λ (l : List Element). c.list_pair.result ≡ Err TooMany
     → Overfills (Completes bounds rules l c.args.chosen.now.formula) c.args.list.now.items)
     same c.list_pair.ensures.too_many
