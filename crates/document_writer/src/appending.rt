@@ -4,7 +4,7 @@ ghost use Rattle.std.specs.List.{flat_map};
 ghost use Rattle.tree_document.specs.Document.{list_lines, text_of};
 ghost use Rattle.tree_document.specs.Line.{done_line, lists_line, skip_line, spectrum_line};
 
-use crate::writer::{push_counted_lists, push_done_line, push_reason, push_spectrum_line};
+use crate::writer::{push_counted_lists, push_reason, push_spectrum_line};
 use element_table::FormulaList;
 use std::alloc::AllocError;
 use tree_document::Skip;
@@ -48,8 +48,6 @@ pub fn push_done(text: &mut Vec<u8>) -> Result<(), AllocError>
     ensures appended { OnOk result (text.new.items ≡ text.old.items ++ text_of (done_line ∷ [])) }
     ensures unchanged { OnErr result (text.new.items ≡ text.old.items) }
 {
-    let mut more = Vec::new(*text.allocator());
-    push_done_line(&mut more)?;
-    text.extend_from_slice(&more)?;
+    text.extend_from_slice(b"done\n")?;
     Ok(())
 }

@@ -8,6 +8,7 @@ ghost use Rattle.tree_document.specs.declared.entry.Outcome.TheVariants as varia
 ghost use Rattle.tree_certificate.specs.Value.{cert_of};
 ghost use Rattle.tree_document.specs.Line as spec;
 
+use crate::appending::push_done;
 use crate::bound_writer::push_bound;
 use element_table::{Formula, FormulaList, print_formula};
 use itoa::Buffer;
@@ -334,14 +335,6 @@ fn push_table(text: &mut Vec<u8>, rows: &[Vec<i64>]) -> Result<(), AllocError>
     Ok(())
 }
 
-/// Appends the line that ends a section.
-pub(crate) fn push_done_line(text: &mut Vec<u8>) -> Result<(), AllocError>
-    ensures { OnOk result (text.new.items ≡ text.old.items ++ text_of (spec.done_line ∷ [])) }
-{
-    text.extend_from_slice(b"done\n")?;
-    Ok(())
-}
-
 /// Appends the lines of a certificate.
 fn push_cert(text: &mut Vec<u8>, cert: &Cert) -> Result<(), AllocError>
     ensures { OnOk result (text.new.items ≡ text.old.items ++ text_of (cert_lines (cert_of cert.now))) }
@@ -456,6 +449,6 @@ pub fn write_section(alloc: Global, section: &Section) -> Result<Vec<u8>, AllocE
     let mut text = Vec::new(alloc);
     push_spectrum_line(&mut text, section.line, section.title.items())?;
     push_body(&mut text, &section.body)?;
-    push_done_line(&mut text)?;
+    push_done(&mut text)?;
     Ok(text)
 }

@@ -11,3 +11,4 @@ pub mod TakesIn
 pub mod ReaderAnswers
 pub mod ReadsLines
 pub mod KindOf
+mod Examples

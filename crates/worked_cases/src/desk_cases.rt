@@ -20,17 +20,20 @@ pub fn answer(rt: &HostRuntime, case: &str) -> io::Result<()> {
     }
     let mut desk = desk(rt.alloc(), failing, piece as usize)?;
     let copied = copy(rt.alloc(), &mut desk, name, limit as usize);
-    println!(rt; "  {copied:?}")?;
-    tell(rt, &desk)
+    tell(rt, copied, &desk)
 }
 
-/// Prints of the text and of its copy how many faults were counted, the name, and what was written.
-fn tell(rt: &HostRuntime, desk: &MemoryDesk) -> io::Result<()> {
-    for slot in [Slot::Spectra, Slot::CertOut] {
-        let (faults, name, written) = (desk.faults(slot), desk.name(slot), desk.written(slot));
-        println!(rt; "  {slot:?} {faults} {name:?} {written:?}")?;
-    }
-    Ok(())
+/// Prints what came of a copy; and of the text and of its copy what the desk keeps.
+fn tell(rt: &HostRuntime, copied: Result<(), ReadWhole>, desk: &MemoryDesk) -> io::Result<()> {
+    println!(rt; "  {copied:?}")?;
+    tell_slot(rt, Slot::Spectra, desk)?;
+    tell_slot(rt, Slot::CertOut, desk)
+}
+
+/// Prints of a slot how many faults were counted, the name, and what was written.
+fn tell_slot(rt: &HostRuntime, slot: Slot, desk: &MemoryDesk) -> io::Result<()> {
+    let (faults, name, written) = (desk.faults(slot), desk.name(slot), desk.written(slot));
+    println!(rt; "  {slot:?} {faults} {name:?} {written:?}")
 }
 
 /// The number of a word, and 0 where it is none.
