@@ -1,5 +1,5 @@
 -- The candidates with the chosen counts, by the count of one more element.
-use Rattle.std.proofs.Common.{◌≡◌, ℕ, ◌+◌, ◌*◌, ◌<◌, ◌≤◌, inl, inr, List, [], ◌∷◌, length, slice_index, slice_set, refl}
+use Rattle.std.proofs.Common.{◌≡◌, ℕ, ◌+◌, ◌*◌, ◌<◌, ◌≤◌, ◌↔◌, inl, inr, List, [], ◌∷◌, length, slice_index, slice_set, refl}
 use Rattle.std.proofs.Common.{sym, subst, ap, ◌∙◌, arith, get_or-set_same, get_or-set_other}
 use Rattle.std.proofs.lemmas.Bool.{cases_eq}
 use Rattle.std.proofs.lemmas.Grind.{same_number_lists}
@@ -10,10 +10,11 @@ use Rattle.element_table.specs.Elements.{masses}
 use Rattle.element_table.specs.Formula.{IsWithin, mass_of}
 use Rattle.element_table.specs.Rule.{Rule, Passes}
 use Rattle.formula_lister.specs.declared.chosen.Bounds.{Bounds}
+use Rattle.formula_lister.specs.declared.chosen.Chosen.{Chosen}
 use Rattle.formula_lister.specs.declared.element.Element.{Element}
 use Rattle.formula_lister.specs.inside.Counting.{Completes, Gains, Overfills, IsOne, IsReady}
 use Rattle.formula_lister.specs.inside.Elements.{AreElements, IsUncounted, NoneChosen, reach_of}
-use Rattle.formula_lister.proofs.Gaining.{Gains-more, Overfills-later}
+use Rattle.formula_lister.proofs.Gaining.{Gains-as, Gains-more, Gains-none, Overfills-later}
 use Rattle.formula_lister.proofs.WeightedSum.{weighted_sum-set}
 
 abbrev IsLower : ℕ → List Element → Type 0
@@ -194,6 +195,42 @@ Completes-feasible bounds rules element others chosen counts mass ready weighed 
 abbrev pub CompletesBelow : Bounds → List Rule → Element → List Element → List ℕ → ℕ → List ℕ → Type 0
 CompletesBelow bounds rules element others chosen count counts =
     Completes bounds rules (element ∷ others) chosen counts × (slice_index counts element.place < count)
+
+-- some elements are their first and the others
+pub IsReady-first : (bounds : Bounds) (elements : List Element) (first : Element) (others : List Element)
+    (chosen : List ℕ) → elements ≡ first ∷ others → IsReady bounds elements chosen
+    → IsReady bounds (first ∷ others) chosen
+IsReady-first bounds elements first others chosen is ready =
+    subst (λ (l : List Element). IsReady bounds l chosen) is ready
+
+-- below the least count with which the others reach the bounds there are no candidates
+pub Gains-no_count : (bounds : Bounds) (rules : List Rule) (first : Element) (others : List Element) (chosen : Chosen)
+    (least : ℕ) (list : List (List ℕ)) → IsReady bounds (first ∷ others) chosen.formula
+    → ((count : ℕ) → (least ≤ count) ↔ (bounds.least ≤ chosen.mass + count * first.mass + first.after))
+    → Gains (CompletesBelow bounds rules first others chosen.formula least) list list
+Gains-no_count bounds rules first others chosen least list ready is_least =
+    Gains-none (CompletesBelow bounds rules first others chosen.formula least) list
+    (λ counts h.
+    let feasible =
+    Completes-feasible bounds rules first others chosen.formula counts chosen.mass ready chosen.weighed.weighed h.0 in
+    let from = (is_least (slice_index counts first.place)).1 feasible.reached in
+    absurd (omega (arith, from, h.1)))
+
+-- below the end of the counts that the bounds allow there are all candidates
+pub Gains-all_counts : (bounds : Bounds) (rules : List Rule) (first : Element) (others : List Element)
+    (chosen : Chosen) (ending count : ℕ) (before now : List (List ℕ)) → IsReady bounds (first ∷ others) chosen.formula
+    → ((k : ℕ) → (k < ending) ↔ ((k ≤ first.limit) × (chosen.mass + k * first.mass ≤ bounds.most)))
+    → ending ≤ count → Gains (CompletesBelow bounds rules first others chosen.formula count) before now
+    → Gains (Completes bounds rules (first ∷ others) chosen.formula) before now
+Gains-all_counts bounds rules first others chosen ending count before now ready is_ending past gains =
+    Gains-as (CompletesBelow bounds rules first others chosen.formula count)
+    (Completes bounds rules (first ∷ others) chosen.formula) before now gains
+    (λ counts p. p.0)
+    (λ counts h.
+    let feasible =
+    Completes-feasible bounds rules first others chosen.formula counts chosen.mass ready chosen.weighed.weighed h in
+    let below = (is_ending (slice_index counts first.place)).1 (feasible.within_limit, feasible.light) in
+    (h, omega (arith, below, past)))
 
 -- one count more, and a list gained all candidates with that count
 pub Gains-more_counts : (bounds : Bounds) (rules : List Rule) (element : Element) (others : List Element) (count : ℕ)

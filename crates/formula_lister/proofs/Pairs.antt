@@ -7,12 +7,13 @@ use Rattle.std.proofs.Math.Nat.{mul-le-mul_right}
 use Rattle.element_table.specs.Formula.{mass_of}
 use Rattle.element_table.specs.Rule.{Rule}
 use Rattle.formula_lister.specs.declared.chosen.Bounds.{Bounds}
+use Rattle.formula_lister.specs.declared.chosen.Chosen.{Chosen}
 use Rattle.formula_lister.specs.declared.element.Element.{Element}
 use Rattle.formula_lister.specs.inside.Counting.{Completes, Gains, IsOne, IsReady, IsRest}
 use Rattle.formula_lister.proofs.Completing.{Completes-feasible, Completes-itself, Completes-only_itself, Completes-set}
 use Rattle.formula_lister.specs.declared.levels.Rest.{Rest}
 use Rattle.formula_lister.specs.inside.Levels.{Fits, IsLevel, IsPair}
-use Rattle.formula_lister.proofs.Gaining.{Gains-as}
+use Rattle.formula_lister.proofs.Gaining.{Gains-as, Gains-none}
 use Rattle.formula_lister.proofs.Leveled.{level_mass}
 use Rattle.formula_lister.proofs.Completing.{CompletesBelow, Completes-unset, IsReady-inside, IsReady-set, mass-set}
 
@@ -128,6 +129,59 @@ IsRest-level bounds next last chosen mass atoms rest ready weighed level within 
       );
   small = level.small;
 }
+
+-- the atoms of the last element beside a count, by their level
+abbrev pub atoms_beside : Element → Rest → ℕ
+atoms_beside next rest = rest.level - next.levels.per * rest.count
+
+IsRest-beside : (bounds : Bounds) (next last : Element) (chosen : Chosen) (rest : Rest)
+    → IsReady bounds (next ∷ last ∷ []) chosen.formula → IsLevel bounds.most chosen.mass next last rest
+    → rest.count ≤ next.limit → next.levels.per * rest.count ≤ rest.level
+    → IsRest bounds next last chosen.formula rest.count (atoms_beside next rest) rest.over
+IsRest-beside bounds next last chosen rest ready level within reached =
+    IsRest-level bounds next last chosen.formula chosen.mass (atoms_beside next rest) rest ready chosen.weighed.weighed
+    level within (omega (arith, reached))
+
+-- where the rest does not fit there is no candidate to list
+pub Gains-unfit : (bounds : Bounds) (rules : List Rule) (next last : Element) (chosen : Chosen) (rest : Rest)
+    (before : List (List ℕ)) → IsReady bounds (next ∷ last ∷ []) chosen.formula
+    → IsLevel bounds.most chosen.mass next last rest → rest.count ≤ next.limit
+    → next.levels.per * rest.count ≤ rest.level
+    → (atoms_beside next rest ≤ last.limit → rest.over ≤ bounds.most - bounds.least → ⊥)
+    → Gains (Completes bounds rules (last ∷ []) (slice_set chosen.formula next.place rest.count)) before before
+Gains-unfit bounds rules next last chosen rest before ready level within reached unfit =
+    let is_rest = IsRest-beside bounds next last chosen rest ready level within reached in
+    Gains-none (Completes bounds rules (last ∷ []) (slice_set chosen.formula next.place rest.count)) before
+    (λ counts completes.
+    let fit =
+    Completes-fits bounds rules next last chosen.formula rest.count (atoms_beside next rest) rest.over counts is_rest
+    completes in
+    unfit fit.within_limit fit.fits)
+
+-- where it fits, the whole formula is the one candidate
+pub record IsOnly (bounds : Bounds) (rules : List Rule) (last : Element) (further whole : List ℕ) : Type 0 where
+  pub of_one : (counts : List ℕ) → IsOne rules whole counts → Completes bounds rules (last ∷ []) further counts
+  pub one : (counts : List ℕ) → Completes bounds rules (last ∷ []) further counts → IsOne rules whole counts
+
+pub IsOnly-fit : (bounds : Bounds) (rules : List Rule) (next last : Element) (chosen : Chosen) (rest : Rest)
+    (whole : List ℕ) → IsReady bounds (next ∷ last ∷ []) chosen.formula
+    → IsLevel bounds.most chosen.mass next last rest → rest.count ≤ next.limit
+    → next.levels.per * rest.count ≤ rest.level → atoms_beside next rest ≤ last.limit
+    → rest.over ≤ bounds.most - bounds.least
+    → whole ≡ slice_set (slice_set chosen.formula next.place rest.count) last.place (atoms_beside next rest)
+    → IsOnly bounds rules last (slice_set chosen.formula next.place rest.count) whole
+IsOnly-fit bounds rules next last chosen rest whole ready level within reached small fits is =
+    let is_rest = IsRest-beside bounds next last chosen rest ready level within reached in
+    let atoms = atoms_beside next rest in
+    let further = slice_set chosen.formula next.place rest.count in
+    let spelled : IsOnly bounds rules last further (slice_set further last.place atoms) = record {
+      of_one = λ counts one.
+          Completes-from_one bounds rules next last chosen.formula rest.count atoms rest.over counts is_rest small fits
+          one;
+      one = λ counts completes.
+          one_from_Completes bounds rules next last chosen.formula rest.count atoms rest.over counts is_rest completes;
+    } in
+    subst (λ (formula : List ℕ). IsOnly bounds rules last further formula) (sym is) spelled
 
 -- the counts of both elements in a candidate
 pub Fits-candidate : (bounds : Bounds) (rules : List Rule) (next last : Element) (chosen counts : List ℕ) (mass : ℕ)

@@ -1,12 +1,11 @@
-use Rattle.std.proofs.Common.{◌≡◌, Err, List, ◌∷◌, slice_index, slice_set, subst, sym, arith}
+use Rattle.std.proofs.Common.{◌≡◌, Err, List, slice_set, subst, sym, arith}
 use Rattle.std.proofs.lemmas.Result.{err_from_is_err_and}
 use Rattle.std.specs.Result.{OnOk}
 use Rattle.element_table.specs.Formula.{mass_of}
 use Rattle.formula_lister.specs.declared.element.Element.{Element}
 use Rattle.formula_lister.specs.inside.Counting.{Completes, Gains, Overfills, IsReady}
-use Rattle.formula_lister.proofs.Completing.{CompletesBelow, Completes-feasible, Gains-more_counts, IsReady-set}
-use Rattle.formula_lister.proofs.Completing.{Overfills-at_count, mass-set}
-use Rattle.formula_lister.proofs.Gaining.{Gains-as, Gains-none}
+use Rattle.formula_lister.proofs.Completing.{Gains-all_counts, Gains-more_counts, Gains-no_count, IsReady-first}
+use Rattle.formula_lister.proofs.Completing.{IsReady-set, mass-set, Overfills-at_count}
 use Rattle.formula_lister.proofs.Pairs.{two_elements}
 use Rattle.formula_lister.specs.declared.outcome.ListFault.TheVariants.{TooMany}
 use Rattle.formula_lister.proofs.counting.Lister.+list_from.Goals as goal
@@ -39,26 +38,15 @@ returns-in-len2-clause-too_many g t c =
     same c.list_pair.ensures.too_many
 
 pub loop-count-init : goal.loop-count-init
-loop-count-init g t c =
-    let bounds = c.args.self.now.bounds in
-    let rules = c.args.self.now.sieve.now.rules.items in
-    let first = c.in-Some.first.now in
-    let others = c.in-Some.others.now in
-    let chosen = c.args.chosen.now in
-    let ready : IsReady bounds (first ∷ others) chosen.formula =
-    subst (λ (l : List Element). IsReady bounds l chosen.formula) c.in-Some.ensures.cases.0 c.requires.ready in
-    record {
-      gained =
-          Gains-none (CompletesBelow bounds rules first others chosen.formula c.least_count-least.result)
-          c.args.list.now.items
-          (λ counts h.
-          let feasible =
-          Completes-feasible bounds rules first others chosen.formula counts chosen.mass ready
-          chosen.weighed.weighed h.0 in
-          let from = (c.least_count-least.ensures (slice_index counts first.place)).1 feasible.reached in
-          absurd (omega (arith, from, h.1)));
-      few = c.requires.few;
-    }
+loop-count-init g t c = record {
+  gained =
+      Gains-no_count c.args.self.now.bounds c.args.self.now.sieve.now.rules.items c.in-Some.first.now c.in-Some.others.now
+      c.args.chosen.now c.least_count-least.result c.args.list.now.items
+      (IsReady-first c.args.self.now.bounds c.args.elements.now c.in-Some.first.now c.in-Some.others.now
+      c.args.chosen.now.formula c.in-Some.ensures.cases.0 c.requires.ready)
+      c.least_count-least.ensures;
+  few = c.requires.few;
+}
 
 pub with-requires-clause-within_limit : goal.with-requires-clause-within_limit
 with-requires-clause-within_limit g t c =
@@ -71,8 +59,8 @@ list_from-requires g t c =
     let others = c.in-Some.others.now in
     let chosen = c.args.chosen.now in
     let count = c.loop-count.count in
-    let ready : IsReady bounds (first ∷ others) chosen.formula =
-    subst (λ (l : List Element). IsReady bounds l chosen.formula) c.in-Some.ensures.cases.0 c.requires.ready in
+    let ready =
+    IsReady-first bounds c.args.elements.now first others chosen.formula c.in-Some.ensures.cases.0 c.requires.ready in
     let allowed = (c.count_end-count-end.ensures count).0 c.loop-count-test.true in
     let further : IsReady bounds others (slice_set chosen.formula first.place count) =
     IsReady-set bounds first others chosen.formula count ready allowed.0 in
@@ -90,59 +78,42 @@ list_from-requires g t c =
     )
 
 pub loop-count-preserved : goal.loop-count-preserved
-loop-count-preserved g t c =
-    let bounds = c.args.self.now.bounds in
-    let rules = c.args.self.now.sieve.now.rules.items in
-    let first = c.in-Some.first.now in
-    let others = c.in-Some.others.now in
-    let chosen = c.args.chosen.now in
-    let ready : IsReady bounds (first ∷ others) chosen.formula =
-    subst (λ (l : List Element). IsReady bounds l chosen.formula) c.in-Some.ensures.cases.0 c.requires.ready in
-    record {
-      gained =
-          Gains-more_counts bounds rules first others c.loop-count.count chosen.formula c.with.result.formula
-          c.args.list.now.items c.loop-count.list.items c.list_from.new.list.items
-          ready c.with.ensures c.loop-count.invariant.gained c.in_ok-list_from.ensures.gains;
-      few = c.list_from.ensures.few;
-    }
+loop-count-preserved g t c = record {
+  gained =
+      Gains-more_counts c.args.self.now.bounds c.args.self.now.sieve.now.rules.items c.in-Some.first.now
+      c.in-Some.others.now c.loop-count.count c.args.chosen.now.formula c.with.result.formula c.args.list.now.items
+      c.loop-count.list.items c.list_from.new.list.items
+      (IsReady-first c.args.self.now.bounds c.args.elements.now c.in-Some.first.now c.in-Some.others.now
+      c.args.chosen.now.formula c.in-Some.ensures.cases.0 c.requires.ready)
+      c.with.ensures c.loop-count.invariant.gained c.in_ok-list_from.ensures.gains;
+  few = c.list_from.ensures.few;
+}
 
 pub returns-in_err-list_from-clause-too_many : goal.returns-in_err-list_from-clause-too_many
 returns-in_err-list_from-clause-too_many g t c =
     let bounds = c.args.self.now.bounds in
     let rules = c.args.self.now.sieve.now.rules.items in
-    let first = c.in-Some.first.now in
-    let others = c.in-Some.others.now in
-    let chosen = c.args.chosen.now in
+    let chosen = c.args.chosen.now.formula in
     let is = c.in-Some.ensures.cases.0 in
-    let ready : IsReady bounds (first ∷ others) chosen.formula =
-    subst (λ (l : List Element). IsReady bounds l chosen.formula) is c.requires.ready in
     let fault = err_from_is_err_and c.from_residual.result c.from_residual.ensures.1 in
     rw (fault.1, fault.2) (λ too_many.
-    subst (λ (l : List Element). Overfills (Completes bounds rules l chosen.formula) c.args.list.now.items) (sym is)
-    (Overfills-at_count bounds rules first others c.loop-count.count chosen.formula c.with.result.formula
-    c.args.list.now.items c.loop-count.list.items
-    ready c.with.ensures c.loop-count.invariant.gained (c.in_err-list_from.ensures.too_many too_many)))
+    subst (λ (l : List Element). Overfills (Completes bounds rules l chosen) c.args.list.now.items) (sym is)
+    (Overfills-at_count bounds rules c.in-Some.first.now c.in-Some.others.now c.loop-count.count chosen
+    c.with.result.formula c.args.list.now.items c.loop-count.list.items
+    (IsReady-first bounds c.args.elements.now c.in-Some.first.now c.in-Some.others.now chosen is c.requires.ready)
+    c.with.ensures c.loop-count.invariant.gained (c.in_err-list_from.ensures.too_many too_many)))
 
 pub returns-clause-gains : goal.returns-clause-gains
 returns-clause-gains g t c =
     let bounds = c.args.self.now.bounds in
     let rules = c.args.self.now.sieve.now.rules.items in
-    let first = c.in-Some.first.now in
-    let others = c.in-Some.others.now in
     let chosen = c.args.chosen.now in
     let is = c.in-Some.ensures.cases.0 in
-    let ready : IsReady bounds (first ∷ others) chosen.formula =
-    subst (λ (l : List Element). IsReady bounds l chosen.formula) is c.requires.ready in
     let all =
-    Gains-as (CompletesBelow bounds rules first others chosen.formula c.loop-count.count)
-    (Completes bounds rules (first ∷ others) chosen.formula) c.args.list.now.items c.loop-count.list.items
-    c.loop-count.invariant.gained
-    (λ counts p. p.0)
-    (λ counts h.
-    let feasible =
-    Completes-feasible bounds rules first others chosen.formula counts chosen.mass ready chosen.weighed.weighed h in
-    let below =
-    (c.count_end-count-end.ensures (slice_index counts first.place)).1 (feasible.within_limit, feasible.light) in
-    (h, omega arith)) in
+    Gains-all_counts bounds rules c.in-Some.first.now c.in-Some.others.now chosen c.count_end-count-end.result
+    c.loop-count.count c.args.list.now.items c.loop-count.list.items
+    (IsReady-first bounds c.args.elements.now c.in-Some.first.now c.in-Some.others.now chosen.formula is
+    c.requires.ready)
+    c.count_end-count-end.ensures (omega arith) c.loop-count.invariant.gained in
     subst (λ (l : List Element). Gains (Completes bounds rules l chosen.formula) c.args.list.now.items
     c.loop-count.list.items) (sym is) all
