@@ -4,3 +4,4 @@ pub mod Seen
 pub mod Searched
 pub mod Counted
 pub mod Fine
+pub mod Ordered

@@ -5,8 +5,9 @@ ghost use Rattle.std.specs.Ordering.{int_eq};
 ghost use Rattle.profile.specs.Form as spec;
 ghost use Rattle.profile.specs.Form.{Known};
 ghost use Rattle.profile.specs.inside.Counted.{items_excess, keys_excess};
+ghost use Rattle.profile.specs.inside.Ordered.{comes};
 ghost use Rattle.profile.specs.inside.Seen.{form_seen, rows_seen};
-ghost use Rattle.score_tables.specs.Tables.{falls_to_nought, rises_to_whole};
+ghost use Rattle.score_tables.specs.Tables.{are_ordered};
 ghost use Rattle.toml.specs.View.{view, array_view, table_view};
 
 use crate::table::element_number;
@@ -392,7 +393,7 @@ fn is_intensity_table(value: &Value) -> bool
     ensures { result ≡ spec.has_kind spec.intensities (view value.now) }
 {
     match value.as_array() {
-        Some(items) => are_pairs(items) && bounds_fall(items),
+        Some(items) => are_pairs(items) && are_ordered(items, false, 0),
         None => false,
     }
 }
@@ -402,7 +403,7 @@ fn is_error_table(value: &Value) -> bool
     ensures { result ≡ spec.has_kind spec.errors (view value.now) }
 {
     match value.as_array() {
-        Some(items) => are_pairs(items) && bounds_rise(items),
+        Some(items) => are_pairs(items) && are_ordered(items, true, 1_000),
         None => false,
     }
 }
@@ -421,32 +422,27 @@ fn is_number(number: i64, other: i64) -> bool
     number == other
 }
 
-/// Whether each bound is below the one before it, and the last is 0.
-fn bounds_fall(items: &Array) -> bool
-    ensures { result ≡ falls_to_nought (spec.item_bounds (array_view items.now)) }
+/// Whether one bound may stand before another: below it where they rise, above it where they fall.
+fn comes(rises: bool, bound: i64, next: i64) -> bool
+    ensures { result ≡ comes rises bound next }
 {
-    for place in 0..items.len() {
-        let bound = pair_bound(&items[place]);
-        if place + 1 == items.len() {
-            return is_number(bound, 0);
-        }
-        if !is_below(pair_bound(&items[place + 1]), bound) {
-            return false;
-        }
+    if rises {
+        is_below(bound, next)
+    } else {
+        is_below(next, bound)
     }
-    false
 }
 
-/// Whether each bound is above the one before it, and the last is 1,000.
-fn bounds_rise(items: &Array) -> bool
-    ensures { result ≡ rises_to_whole (spec.item_bounds (array_view items.now)) }
+/// Whether each bound rises above the one before it, or falls below it, and the last is a given one.
+fn are_ordered(items: &Array, rises: bool, last: i64) -> bool
+    ensures { result ≡ are_ordered (comes rises) last (spec.item_bounds (array_view items.now)) }
 {
     for place in 0..items.len() {
         let bound = pair_bound(&items[place]);
         if place + 1 == items.len() {
-            return is_number(bound, 1_000);
+            return is_number(bound, last);
         }
-        if !is_below(bound, pair_bound(&items[place + 1])) {
+        if !comes(rises, bound, pair_bound(&items[place + 1])) {
             return false;
         }
     }
