@@ -12,7 +12,7 @@ use Rattle.tree_document.specs.declared.fault.DocumentError.TheVariants.{OutOfMe
 use Rattle.tree_document.specs.Line.{Line}
 use Rattle.tree_document.specs.Document.{IsGood, IsInRange, lines_of, spelling_of}
 use Rattle.tree_document.specs.Reading.{Begins, IsAny, IsAnswer, IsBadLine, IsPastEnd, IsReading, IsRefusal, IsTooBig}
-use Rattle.tree_document.specs.Reading.{IsTooDeep, IsTruncated, Spelled}
+use Rattle.tree_document.specs.Reading.{IsTooDeep, IsTruncated, Reaches, Spelled}
 use Rattle.line_fields.specs.Need.{need_document}
 use Rattle.document_reader.proofs.Apart.{same_document}
 use Rattle.document_reader.proofs.Known.{Known}
@@ -87,20 +87,14 @@ near_begins texts begins = record {
 record Stops (texts : List (List ℕ)) (line : ℕ) : Type 0 where
   before : List (List ℕ)
   text : List ℕ
-  after : List (List ℕ)
-  stands : texts ≡ before ++ text ∷ after
-  line_is : line ≡ length before + 1
-  good : Begins IsGood before
+  reached : Reaches texts line before text
   none : Begins IsGood (before ++ text ∷ []) → ⊥
 
 abbrev stops_bad : (texts : List (List ℕ)) (line : ℕ) → IsBadLine texts line → Stops texts line
 stops_bad texts line is = record {
   before = is.before;
   text = is.text;
-  after = is.reached.after;
-  stands = is.reached.stands;
-  line_is = is.reached.line_is;
-  good = is.reached.good;
+  reached = is.reached;
   none = λ begins. is.no_document (any_begins IsGood (is.before ++ is.text ∷ []) begins);
 }
 
@@ -108,10 +102,7 @@ abbrev stops_big : (texts : List (List ℕ)) (line : ℕ) → IsTooBig texts lin
 stops_big texts line is = record {
   before = is.before;
   text = is.text;
-  after = is.reached.after;
-  stands = is.reached.stands;
-  line_is = is.reached.line_is;
-  good = is.reached.good;
+  reached = is.reached;
   none = λ begins. is.no_document_in_range (near_begins (is.before ++ is.text ∷ []) begins);
 }
 
@@ -119,16 +110,14 @@ abbrev stops_deep : (texts : List (List ℕ)) (line : ℕ) → IsTooDeep texts l
 stops_deep texts line is = record {
   before = is.before;
   text = is.text;
-  after = is.reached.after;
-  stands = is.reached.stands;
-  line_is = is.reached.line_is;
-  good = is.reached.good;
+  reached = is.reached;
   none = is.no_good_document;
 }
 
 -- no good document begins with all the lines
 not_all : (texts : List (List ℕ)) (line : ℕ) → Stops texts line → Begins IsGood texts → ⊥
-not_all texts line is begins = is.none (begins_to IsGood texts is.before is.after is.text is.stands begins)
+not_all texts line is begins = is.none (begins_to IsGood texts is.before is.reached.after is.text is.reached.stands
+    begins)
 
 -- two places of a list are the same, or one of them is the earlier
 abbrev Places : List (List ℕ) → List ℕ → List (List ℕ) → List ℕ → Type 0
@@ -164,19 +153,19 @@ places (first ∷ before) (next ∷ other) after behind text its is =
 -- so there is one such place
 same_place : (texts : List (List ℕ)) (line number : ℕ) (is : Stops texts line) (also : Stops texts number)
     → (is.before ≡ also.before) × (is.text ≡ also.text)
-same_place texts line number is also = step (places is.before also.before is.after also.after is.text also.text
-    (sym is.stands ∙ also.stands))
+same_place texts line number is also = step (places is.before also.before is.reached.after also.reached.after is.text
+    also.text (sym is.reached.stands ∙ also.reached.stands))
   where
     step : Places is.before is.text also.before also.text → (is.before ≡ also.before) × (is.text ≡ also.text)
     step (inl same) = same
     step (inr (inl earlier)) = absurd (is.none (begins_to IsGood also.before is.before earlier.0 is.text earlier.1
-        also.good))
+        also.reached.good))
     step (inr (inr later)) = absurd (also.none (begins_to IsGood is.before also.before later.0 also.text later.1
-        is.good))
+        is.reached.good))
 
 same_line : (texts : List (List ℕ)) (line number : ℕ) → Stops texts line → Stops texts number → line ≡ number
 same_line texts line number is also =
-    is.line_is ∙ ap (λ t. length t + 1) (same_place texts line number is also).0 ∙ sym also.line_is
+    is.reached.line_is ∙ ap (λ t. length t + 1) (same_place texts line number is also).0 ∙ sym also.reached.line_is
 
 -- a good document whose lines are all these
 whole_begins : (texts : List (List ℕ)) (whole : Document) → IsGood whole → Spelled (lines_of whole) texts

@@ -1,5 +1,5 @@
 -- Of total: the sum of numbers of a certificate, one after another.
-use Rattle.std.proofs.Common.{◌≡◌, ◌+◌, ◌*◌, ◌<◌, ◌≤◌, ◌∙◌, ℕ, suc, ℤ, pos, negsuc, ◌+ℤ◌, ◌≤ℤ◌, true, List, [], ◌∷◌}
+use Rattle.std.proofs.Common.{◌≡◌, ◌+◌, ◌-◌, ◌*◌, ◌<◌, ◌≤◌, ◌∙◌, ℕ, suc, ℤ, pos, negsuc, ◌+ℤ◌, ◌≤ℤ◌, true, List, [], ◌∷◌}
 use Rattle.std.proofs.Common.{◌++◌, length, take, ap, arith, SFits, of_z, to_z, w64}
 use Rattle.std.proofs.lemmas.Bool.{and_parts, leb-true}
 use Rattle.std.proofs.lemmas.Int.{ints, to_z-of_z}
@@ -7,7 +7,8 @@ use Rattle.std.proofs.lemmas.List.{take_more}
 use Rattle.std.proofs.lemmas.List.Sums.{AllPass-from_list_all}
 use Rattle.std.specs.List.{list_all}
 use Rattle.colour_graph.specs.Colourful.{total}
-use Rattle.colour_graph.specs.Graph.{IsScore}
+use Rattle.colour_graph.specs.Graph.{Graph, HasColours, IsScore, colour_count}
+use Rattle.colour_graph.proofs.Order.{colour-le_vertex}
 use Rattle.tree_certificate.specs.Number.{AreNear, greatest_number, is_near, number_in}
 
 last_added : (n : ℤ) → n +ℤ pos 0 ≡ pos 0 +ℤ n
@@ -85,6 +86,13 @@ IsSumNear-total [] are = record { not_below = omega (arith, ints); not_above = o
 IsSumNear-total (n ∷ ns) are =
     let parts = and_parts (is_near greatest_number n) (list_all (is_near greatest_number) ns) are in
     IsSumNear-first n (total ns) (length ns) (near n parts.0) (IsSumNear-total ns parts.1)
+
+-- a graph has a price for each colour, so no more than vertices
+pub few_prices : (graph : Graph) (prices : List ℤ) → HasColours graph.colours → length prices ≡ colour_count graph
+    → length prices ≤ 4096
+few_prices graph prices colours is =
+    let low = colour-le_vertex graph colours (length graph.colours - 1) (omega (arith, colours.some)) in
+    omega (arith, low, colours.few, is)
 
 -- a sum, one more number of a certificate and a score
 pub SFits-with : (sum number : ℤ) (count : ℕ) → IsSumNear sum count → IsNear number → count ≤ 4096

@@ -1,38 +1,30 @@
-use Rattle.std.proofs.Common.{◌≡◌, ◌-◌, ◌≤◌, ◌+ℤ◌, arith, ap, ◌∙◌, length, w32, w64}
+use Rattle.std.proofs.Common.{◌≡◌, ◌+ℤ◌, arith, ap, ◌∙◌, w32, w64}
 use Rattle.std.proofs.lemmas.Int.{to_z-of_z}
 use Rattle.colour_graph.specs.Colourful.{total}
-use Rattle.colour_graph.proofs.Order.{colour-le_vertex}
 use Rattle.colour_graph.proofs.Scores.{SFits-score}
 use Rattle.tree_certificate.specs.Number.{number_in}
-use Rattle.price_bound.proofs.Totals.{IsNear-at, IsSumNear-total, SFits-whole, SFits-with, with_prices, with_root}
+use Rattle.price_bound.proofs.Totals.{few_prices, IsNear-at, IsSumNear-total, SFits-whole, SFits-with, with_prices}
+use Rattle.price_bound.proofs.Totals.{with_root}
 use Rattle.price_bound.proofs.total.total_of.Goals as goal
 
 pub sum-requires-clause-few : goal.sum-requires-clause-few
 sum-requires-clause-few c =
-    let colours = c.is_graph.ensures.colours in
-    let low = colour-le_vertex c.args.graph.now colours (length c.args.graph.now.colours - 1)
-    (omega (arith, colours.some)) in
-    omega (arith, low, colours.few, c.requires.prices)
+    let few = few_prices c.args.graph.now c.args.prices.now c.is_graph.ensures.colours c.requires.prices in
+    omega (arith, few)
 
 pub overflow_add-result : goal.overflow_add-result
 overflow_add-result c =
-    let colours = c.is_graph.ensures.colours in
-    let low = colour-le_vertex c.args.graph.now colours (length c.args.graph.now.colours - 1)
-    (omega (arith, colours.some)) in
-    let few : length c.args.prices.now ≤ 4096 = omega (arith, low, colours.few, c.requires.prices) in
+    let few = few_prices c.args.graph.now c.args.prices.now c.is_graph.ensures.colours c.requires.prices in
     let first = IsNear-at c.args.potentials.now 0 c.requires.potentials_near
-    (omega (arith, c.requires.potentials, colours.some)) in
+    (omega (arith, c.requires.potentials, c.is_graph.ensures.colours.some)) in
     let sum = IsSumNear-total c.args.prices.now c.requires.prices_near in
     rw (c.sum.ensures, with_prices _ _ _ sum first few) (SFits-with _ _ _ sum first few)
 
 pub overflow_add-result-2 : goal.overflow_add-result-2
 overflow_add-result-2 c =
-    let colours = c.is_graph.ensures.colours in
-    let low = colour-le_vertex c.args.graph.now colours (length c.args.graph.now.colours - 1)
-    (omega (arith, colours.some)) in
-    let few : length c.args.prices.now ≤ 4096 = omega (arith, low, colours.few, c.requires.prices) in
+    let few = few_prices c.args.graph.now c.args.prices.now c.is_graph.ensures.colours c.requires.prices in
     let first = IsNear-at c.args.potentials.now 0 c.requires.potentials_near
-    (omega (arith, c.requires.potentials, colours.some)) in
+    (omega (arith, c.requires.potentials, c.is_graph.ensures.colours.some)) in
     let sum = IsSumNear-total c.args.prices.now c.requires.prices_near in
     let root : c.from.result ≡ c.root_score.result = c.from.ensures
     ∙ to_z-of_z w32 c.root_score.result (SFits-score c.root_score.result c.root_score.ensures.near) in
@@ -41,12 +33,9 @@ overflow_add-result-2 c =
 
 pub returns : goal.returns
 returns c =
-    let colours = c.is_graph.ensures.colours in
-    let low = colour-le_vertex c.args.graph.now colours (length c.args.graph.now.colours - 1)
-    (omega (arith, colours.some)) in
-    let few : length c.args.prices.now ≤ 4096 = omega (arith, low, colours.few, c.requires.prices) in
+    let few = few_prices c.args.graph.now c.args.prices.now c.is_graph.ensures.colours c.requires.prices in
     let first = IsNear-at c.args.potentials.now 0 c.requires.potentials_near
-    (omega (arith, c.requires.potentials, colours.some)) in
+    (omega (arith, c.requires.potentials, c.is_graph.ensures.colours.some)) in
     let sum = IsSumNear-total c.args.prices.now c.requires.prices_near in
     let root : c.from.result ≡ c.root_score.result = c.from.ensures
     ∙ to_z-of_z w32 c.root_score.result (SFits-score c.root_score.result c.root_score.ensures.near) in
