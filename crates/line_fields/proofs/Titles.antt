@@ -59,24 +59,23 @@ plain_next first text byte rest other is =
           text = ap length same.1 in omega arith,
     )
 
+-- the byte that an escape spells, and what stands behind it
+abbrev escape_at : List ℕ → Option (ℕ × List ℕ)
+escape_at text = cond {A = Option (ℕ × List ℕ)} (ltb (length text) 4) None
+    (Some (nibble_of (get_or text 2 0) * 16 + nibble_of (get_or text 3 0), drop 4 text))
+
+title_byte_at-some : (first : ℕ) (text : List ℕ) → title_byte_at (first ∷ text)
+    ≡ cond {A = Option (ℕ × List ℕ)} (eqb first 92) (escape_at (first ∷ text)) (Some (first, text))
+title_byte_at-some first text =
+    cond-false (eqb (length (first ∷ text)) 0) _ _ (ne_eqb (length (first ∷ text)) 0 (λ none. omega arith))
+
 pub title_of-next : (text : List ℕ) (byte : ℕ) (rest : List ℕ) → Some (byte, rest) ≡ title_byte_at text
     → (title_of text ≡ byte ∷ title_of rest) × (length rest < length text)
 title_of-next [] byte rest is = absurd (none-some _ (sym is))
-title_of-next (first ∷ text) byte rest is = step (eqb first 92) refl (is ∙ some)
+title_of-next (first ∷ text) byte rest is = step (eqb first 92) refl (is ∙ title_byte_at-some first text)
   where
-    some : title_byte_at (first ∷ text) ≡ cond {A = Option (ℕ × List ℕ)} (eqb first 92)
-        (cond {A = Option (ℕ × List ℕ)} (ltb (length (first ∷ text)) 4) None
-        (Some (
-          nibble_of (get_or (first ∷ text) 2 0) * 16 + nibble_of (get_or (first ∷ text) 3 0),
-          drop 4
-              (first ∷ text),
-        ))) (Some (first, text))
-    some = cond-false (eqb (length (first ∷ text)) 0) _ _ (ne_eqb (length (first ∷ text)) 0 (λ none. omega arith))
-
     long : (t : List ℕ) → text ≡ t → eqb first 92 ≡ true
-        → Some (byte, rest) ≡ cond {A = Option (ℕ × List ℕ)} (ltb (length (first ∷ t)) 4) None
-        (Some (nibble_of (get_or (first ∷ t) 2 0) * 16 + nibble_of (get_or (first ∷ t) 3 0), drop 4 (first ∷ t)))
-        → Next (first ∷ t) byte rest
+        → Some (byte, rest) ≡ escape_at (first ∷ t) → Next (first ∷ t) byte rest
     long [] same slash told = absurd (none-some _ (sym told))
     long (a ∷ []) same slash told = absurd (none-some _ (sym told))
     long (a ∷ b ∷ []) same slash told = absurd (none-some _ (sym told))
@@ -93,34 +92,17 @@ title_of-next (first ∷ text) byte rest is = step (eqb first 92) refl (is ∙ s
         )
 
     step : (b : Bool) → eqb first 92 ≡ b
-        → Some (byte, rest) ≡ cond {A = Option (ℕ × List ℕ)} b
-        (cond {A = Option (ℕ × List ℕ)} (ltb (length (first ∷ text)) 4) None
-        (Some (
-          nibble_of (get_or (first ∷ text) 2 0) * 16 + nibble_of (get_or (first ∷ text) 3 0),
-          drop 4
-              (first ∷ text),
-        ))) (Some (first, text))
+        → Some (byte, rest) ≡ cond {A = Option (ℕ × List ℕ)} b (escape_at (first ∷ text)) (Some (first, text))
         → Next (first ∷ text) byte rest
     step false other told = plain_next first text byte rest other told
     step true slash told = long text refl slash told
 
 pub title_of-none : (text : List ℕ) → None ≡ title_byte_at text → title_of text ≡ []
 title_of-none [] is = refl
-title_of-none (first ∷ text) is = step (eqb first 92) refl (is ∙ some)
+title_of-none (first ∷ text) is = step (eqb first 92) refl (is ∙ title_byte_at-some first text)
   where
-    some : title_byte_at (first ∷ text) ≡ cond {A = Option (ℕ × List ℕ)} (eqb first 92)
-        (cond {A = Option (ℕ × List ℕ)} (ltb (length (first ∷ text)) 4) None
-        (Some (
-          nibble_of (get_or (first ∷ text) 2 0) * 16 + nibble_of (get_or (first ∷ text) 3 0),
-          drop 4
-              (first ∷ text),
-        ))) (Some (first, text))
-    some = cond-false (eqb (length (first ∷ text)) 0) _ _ (ne_eqb (length (first ∷ text)) 0 (λ none. omega arith))
-
     long : (t : List ℕ) → eqb first 92 ≡ true
-        → None ≡ cond {A = Option (ℕ × List ℕ)} (ltb (length (first ∷ t)) 4) None
-        (Some (nibble_of (get_or (first ∷ t) 2 0) * 16 + nibble_of (get_or (first ∷ t) 3 0), drop 4 (first ∷ t)))
-        → title_of (first ∷ t) ≡ []
+        → None ≡ escape_at (first ∷ t) → title_of (first ∷ t) ≡ []
     long [] slash told = rw slash refl
     long (a ∷ []) slash told = rw slash refl
     long (a ∷ b ∷ []) slash told = rw slash refl
@@ -131,12 +113,7 @@ title_of-none (first ∷ text) is = step (eqb first 92) refl (is ∙ some)
         (Some (nibble_of b * 16 + nibble_of c, t)) enough))
 
     step : (b : Bool) → eqb first 92 ≡ b
-        → None ≡ cond {A = Option (ℕ × List ℕ)} b (cond {A = Option (ℕ × List ℕ)} (ltb (length (first ∷ text)) 4) None
-        (Some (
-          nibble_of (get_or (first ∷ text) 2 0) * 16 + nibble_of (get_or (first ∷ text) 3 0),
-          drop 4
-              (first ∷ text),
-        ))) (Some (first, text))
+        → None ≡ cond {A = Option (ℕ × List ℕ)} b (escape_at (first ∷ text)) (Some (first, text))
         → title_of (first ∷ text) ≡ []
     step false other told = absurd (none-some _ told)
     step true slash told = long text slash told

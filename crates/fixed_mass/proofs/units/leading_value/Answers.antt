@@ -11,14 +11,14 @@ read_on-requires c = all_take c.min-from_whole.result c.args.whole.now c.require
 
 pub returns-in_err-value-clause-none : goal.returns-in_err-value-clause-none
 returns-in_err-value-clause-none c _ =
-    let great = c.in_err-value.ensures.none refl in
     let kept = c.saturating_sub-kept.result in
     let front = c.min-from_whole.result in
+    let great = c.in_err-value.ensures.none refl in
+    let more =
+    after_ge (digits_value_after 10 0 (take front c.args.whole.now)) (take (kept - front) c.args.fraction.now) in
     let parts =
     leading_of-parts c.args.dropped kept front c.args.whole.now c.args.fraction.now c.saturating_sub-kept.ensures
     c.min-from_whole.ensures in
-    let more =
-    after_ge (digits_value_after 10 0 (take front c.args.whole.now)) (take (kept - front) c.args.fraction.now) in
     omega arith
 
 pub read_on-requires-2 : goal.read_on-requires-2
@@ -27,23 +27,21 @@ read_on-requires-2 c =
 
 pub returns-clause-some : goal.returns-clause-some
 returns-clause-some c =
-    let kept = c.saturating_sub-kept.result in
-    let front = c.min-from_whole.result in
     let parts =
-    leading_of-parts c.args.dropped kept front c.args.whole.now c.args.fraction.now c.saturating_sub-kept.ensures
-    c.min-from_whole.ensures in
+    leading_of-parts c.args.dropped c.saturating_sub-kept.result c.min-from_whole.result c.args.whole.now
+    c.args.fraction.now c.saturating_sub-kept.ensures c.min-from_whole.ensures in
+    let kept = c.saturating_sub-kept.result - c.min-from_whole.result in
     let started =
-    ap (λ v. digits_value_after 10 v (take (kept - front) c.args.fraction.now)) c.in_ok-value.ensures.some in
+    ap (λ v. digits_value_after 10 v (take kept c.args.fraction.now)) c.in_ok-value.ensures.some in
     subst (λ (n : ℕ). IfSome c.read_on-2.result (λ value. value ≡ n)) (started ∙ parts) c.read_on-2.ensures.some
 
 pub returns-clause-none : goal.returns-clause-none
 returns-clause-none c none =
-    let kept = c.saturating_sub-kept.result in
-    let front = c.min-from_whole.result in
-    let parts =
-    leading_of-parts c.args.dropped kept front c.args.whole.now c.args.fraction.now c.saturating_sub-kept.ensures
-    c.min-from_whole.ensures in
-    let started =
-    ap (λ v. digits_value_after 10 v (take (kept - front) c.args.fraction.now)) c.in_ok-value.ensures.some in
     let great = c.read_on-2.ensures.none none in
+    let parts =
+    leading_of-parts c.args.dropped c.saturating_sub-kept.result c.min-from_whole.result c.args.whole.now
+    c.args.fraction.now c.saturating_sub-kept.ensures c.min-from_whole.ensures in
+    let started =
+    ap (λ v. digits_value_after 10 v (take (c.saturating_sub-kept.result - c.min-from_whole.result)
+    c.args.fraction.now)) c.in_ok-value.ensures.some in
     omega arith
