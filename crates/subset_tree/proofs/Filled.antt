@@ -47,10 +47,10 @@ filled-none graph rows vertex n numbers is = record {
 
 -- Numbers that agree are enough alike.
 IsHighTo-same : (graph : Graph) (rows : List (List ℤ)) (vertex size other_size : ℕ) (numbers other : List ℤ)
-    (set : List Bool) (upper : ℤ)
+    (set : List Bool) (candidate : ℤ)
     → ((s : List Bool) → length s ≡ length set → number_to size numbers s ≡ number_to other_size other s)
-    → IsHighTo graph rows vertex size numbers set upper → IsHighTo graph rows vertex other_size other set upper
-IsHighTo-same graph rows vertex size other_size numbers other set upper same high = record {
+    → IsHighTo graph rows vertex size numbers set candidate → IsHighTo graph rows vertex other_size other set candidate
+IsHighTo-same graph rows vertex size other_size numbers other set candidate same high = record {
   left_out = rw (← same set refl) high.left_out;
   taken = λ edge within tail into part is_part.
       rw (← same (without set part) (length-without set part is_part)) (high.taken edge within tail into part is_part);
@@ -61,8 +61,8 @@ pub filled-more : (graph : Graph) (rows : List (List ℤ)) (vertex colour size :
     → colour + size ≡ colour_count graph → colour_count graph ≤ 12
     → AreGainsBefore graph rows vertex colour (length graph.edges) gains
     → ((place : ℕ) → place < 2 ^ size → number_in new (2 * place) ≡ number_in old place)
-    → ((set : List Bool) → place_of set < 2 ^ size → (upper : ℤ)
-    → (number_in new (1 + 2 * place_of set) ≤ℤ upper) ↔ IsEnough old gains set upper)
+    → ((set : List Bool) → place_of set < 2 ^ size → (candidate : ℤ)
+    → (number_in new (1 + 2 * place_of set) ≤ℤ candidate) ↔ IsEnough old gains set candidate)
     → AreModest new → IsFilledTo graph rows vertex size old → IsFilledTo graph rows vertex (size + 1) new
 filled-more graph rows vertex colour size old new gains counted few gained kept grown modest before =
     record { modest = modest; exact = exact }
@@ -89,19 +89,20 @@ filled-more graph rows vertex colour size old new gains counted few gained kept 
             let power : 2 ^ size ≡ 2 ^ less * 2 ^ n = ap (λ k. 2 ^ k) (sym sum) ∙ pow-add 2 less n in
             rw power (mul-lt-mul_of_pos_left low (pow_pos less))
 
-    exact : (set : List Bool) → length set < size + 1 → (upper : ℤ)
-        → (number_to (size + 1) new (true ∷ set) ≤ℤ upper) ↔ IsHighTo graph rows vertex (size + 1) new set upper
-    exact set within upper = choose (cases_lt (length set) size)
+    exact : (set : List Bool) → length set < size + 1 → (candidate : ℤ)
+        → (number_to (size + 1) new (true ∷ set) ≤ℤ candidate) ↔ IsHighTo graph rows vertex (size + 1) new set candidate
+    exact set within candidate = choose (cases_lt (length set) size)
       where
         choose : (length set < size) ⊎ (size ≤ length set)
-            → (number_to (size + 1) new (true ∷ set) ≤ℤ upper) ↔ IsHighTo graph rows vertex (size + 1) new set upper
+            → (number_to (size + 1) new (true ∷ set) ≤ℤ candidate)
+            ↔ IsHighTo graph rows vertex (size + 1) new set candidate
         choose (inl smaller) = (
-          λ low. IsHighTo-same graph rows vertex size (size + 1) old new set upper
+          λ low. IsHighTo-same graph rows vertex size (size + 1) old new set candidate
               (λ s long. sym (same s (omega (arith, long, smaller))))
-              ((before.exact set smaller upper).0 (rw (same (true ∷ set) (omega (arith, smaller))) at low)),
+              ((before.exact set smaller candidate).0 (rw (same (true ∷ set) (omega (arith, smaller))) at low)),
           λ high. rw (same (true ∷ set) (omega (arith, smaller)))
-              ((before.exact set smaller upper).1
-              (IsHighTo-same graph rows vertex (size + 1) size new old set upper
+              ((before.exact set smaller candidate).1
+              (IsHighTo-same graph rows vertex (size + 1) size new old set candidate
               (λ s long. same s (omega (arith, long, smaller))) high)),
         )
         choose (inr not_smaller) = (λ low. to (rw there at low), λ high. rw there (from high))
@@ -134,51 +135,56 @@ filled-more graph rows vertex colour size old new gains counted few gained kept 
             into_colour : (other : ℕ) → other + length set ≡ colour_count graph → other ≡ colour
             into_colour other at = omega (arith, at, counted, long)
 
-            moved : (gain number upper : ℤ) → (gain +ℤ number) ≤ℤ upper → gain ≤ℤ (upper -ℤ number)
-            moved gain number upper is = omega (arith, ints)
+            moved : (gain number candidate : ℤ) → (gain +ℤ number) ≤ℤ candidate → gain ≤ℤ (candidate -ℤ number)
+            moved gain number candidate is = omega (arith, ints)
 
-            back : (gain number upper : ℤ) → gain ≤ℤ (upper -ℤ number) → (gain +ℤ number) ≤ℤ upper
-            back gain number upper is = omega (arith, ints)
+            back : (gain number candidate : ℤ) → gain ≤ℤ (candidate -ℤ number) → (gain +ℤ number) ≤ℤ candidate
+            back gain number candidate is = omega (arith, ints)
 
             few_places : (place part whole : ℕ) → part + place ≡ whole → whole ≡ place_of set → place ≤ 4096
             few_places place part whole sum is =
                 let bound : 2 ^ size ≤ 4096 = powers-le size (omega (arith, counted, few)) in
                 omega (arith, bound, place_below, sum, is)
 
-            lowest : (rest number upper : ℤ) (place : ℕ) → rest ≤ℤ pos (100000 * place) → pos 0 ≤ℤ number
-                → number ≤ℤ upper → place ≤ 4096 → negsuc 999999999 ≤ℤ (upper -ℤ rest)
-            lowest rest number upper place high low is few = omega (arith, ints)
+            lowest : (rest number candidate : ℤ) (place : ℕ) → rest ≤ℤ pos (100000 * place) → pos 0 ≤ℤ number
+                → number ≤ℤ candidate → place ≤ 4096 → negsuc 999999999 ≤ℤ (candidate -ℤ rest)
+            lowest rest number candidate place high low is few = omega (arith, ints)
 
-            to : number_in new (1 + 2 * place_of set) ≤ℤ upper → IsHighTo graph rows vertex (size + 1) new set upper
+            to : number_in new (1 + 2 * place_of set) ≤ℤ candidate
+                → IsHighTo graph rows vertex (size + 1) new set candidate
             to low = record { left_out = rw (here set long) enough.left_out; taken = taken }
               where
-                enough : IsEnough old gains set upper
-                enough = (grown set place_below upper).0 low
+                enough : IsEnough old gains set candidate
+                enough = (grown set place_below candidate).0 low
 
                 taken : (edge : ℕ) → edge < length graph.edges → (edge_at graph edge).tail ≡ vertex
                     → head_colour graph edge + length set ≡ colour_count graph → (part : List Bool) → IsPartOf part set
                     → (((edge_at graph edge).weight +ℤ number_of graph rows (edge_at graph edge).head part) +ℤ number_to
-                    (size + 1) new (without set part)) ≤ℤ upper
+                    (size + 1) new (without set part)) ≤ℤ candidate
                 taken edge in_graph tail into part is_part =
                     rw (left part is_part)
                     (back ((edge_at graph edge).weight +ℤ number_of graph rows (edge_at graph edge).head part)
-                    (number_in old (place_of (without set part))) upper
-                    (((gained.exact part (parted part is_part) (upper -ℤ number_in old (place_of (without set part)))).0
-                    (moved (number_in gains (place_of part)) (number_in old (place_of (without set part))) upper
+                    (number_in old (place_of (without set part))) candidate
+                    (((gained.exact part (parted part is_part)
+                    (candidate -ℤ number_in old (place_of (without set part)))).0
+                    (moved (number_in gains (place_of part)) (number_in old (place_of (without set part))) candidate
                     (enough.taken part is_part))).each edge in_graph tail
                     (into_colour (head_colour graph edge) into)))
 
-            from : IsHighTo graph rows vertex (size + 1) new set upper → number_in new (1 + 2 * place_of set) ≤ℤ upper
-            from high = (grown set place_below upper).1
+            from : IsHighTo graph rows vertex (size + 1) new set candidate
+                → number_in new (1 + 2 * place_of set) ≤ℤ candidate
+            from high = (grown set place_below candidate).1
                 (record { left_out = rw (here set long) at high.left_out; taken = taken })
               where
                 taken : (part : List Bool) → IsPartOf part set
-                    → (number_in gains (place_of part) +ℤ number_in old (place_of (without set part))) ≤ℤ upper
+                    → (number_in gains (place_of part) +ℤ number_in old (place_of (without set part))) ≤ℤ candidate
                 taken part is_part =
-                    back (number_in gains (place_of part)) (number_in old (place_of (without set part))) upper
-                    ((gained.exact part (parted part is_part) (upper -ℤ number_in old (place_of (without set part)))).1
+                    back (number_in gains (place_of part)) (number_in old (place_of (without set part))) candidate
+                    ((gained.exact part (parted part is_part)
+                    (candidate -ℤ number_in old (place_of (without set part)))).1
                     (record {
-                      lowest = lowest (number_in old (place_of (without set part))) (number_in old (place_of set)) upper
+                      lowest =
+                          lowest (number_in old (place_of (without set part))) (number_in old (place_of set)) candidate
                           (place_of (without set part))
                           (before.modest.not_above (place_of (without set part)))
                           (before.modest.not_below (place_of set)) (rw (here set long) at high.left_out)
@@ -186,7 +192,7 @@ filled-more graph rows vertex colour size old new gains counted few gained kept 
                           (place-without set part is_part) refl);
                       each = λ edge in_graph tail into.
                           moved ((edge_at graph edge).weight +ℤ number_of graph rows (edge_at graph edge).head part)
-                          (number_in old (place_of (without set part))) upper
+                          (number_in old (place_of (without set part))) candidate
                           (rw (left part is_part) at
                           (high.taken edge in_graph tail (ap (λ n. n + length set) into ∙ ap (λ n. colour + n) long
                           ∙ counted) part is_part));
@@ -245,8 +251,8 @@ filled-row graph rows more vertex numbers is_graph is within long row before =
 
     exact : (v : ℕ) (set : List Bool) → vertex ≤ v → v < length graph.colours
         → colour_of graph v + length set < colour_count graph
-        → (upper : ℤ) → (number_of graph more v (true ∷ set) ≤ℤ upper) ↔ IsHighEnough graph more v set upper
-    exact v set low there room upper = choose (cases_eq v vertex)
+        → (candidate : ℤ) → (number_of graph more v (true ∷ set) ≤ℤ candidate) ↔ IsHighEnough graph more v set candidate
+    exact v set low there room candidate = choose (cases_eq v vertex)
       where
         other : v ≢ vertex → (s : List Bool) → number_of graph more v s ≡ number_of graph rows v s
         other apart s = number_of-other graph rows more vertex numbers is v s apart
@@ -257,10 +263,10 @@ filled-row graph rows more vertex numbers is_graph is within long row before =
             (head_apart graph is_graph edge v vertex in_graph tail low)
 
         choose : (v ≡ vertex) ⊎ (v ≡ vertex → ⊥)
-            → (number_of graph more v (true ∷ set) ≤ℤ upper) ↔ IsHighEnough graph more v set upper
+            → (number_of graph more v (true ∷ set) ≤ℤ candidate) ↔ IsHighEnough graph more v set candidate
         choose (inr apart) = (
           λ is_low.
-              let known = (before.exact v set (omega (arith, low, apart)) there room upper).0
+              let known = (before.exact v set (omega (arith, low, apart)) there room candidate).0
               (rw (other apart (true ∷ set)) at is_low) in
               record {
                 left_out = rw (other apart set) known.left_out;
@@ -270,7 +276,7 @@ filled-row graph rows more vertex numbers is_graph is within long row before =
               },
           λ high.
               rw (other apart (true ∷ set))
-              ((before.exact v set (omega (arith, low, apart)) there room upper).1 (record {
+              ((before.exact v set (omega (arith, low, apart)) there room candidate).1 (record {
                 left_out = rw (other apart set) at high.left_out;
                 taken = λ edge in_graph tail into part is_part.
                     rw (head edge in_graph tail part, other apart (without set part)) at
@@ -279,7 +285,7 @@ filled-row graph rows more vertex numbers is_graph is within long row before =
         )
         choose (inl same) = (
           λ is_low.
-              let known = (row.exact set small upper).0 (rw (here (true ∷ set)) at is_low) in
+              let known = (row.exact set small candidate).0 (rw (here (true ∷ set)) at is_low) in
               record {
                 left_out = rw (here set) known.left_out;
                 taken = λ edge in_graph tail into part is_part.
@@ -287,7 +293,7 @@ filled-row graph rows more vertex numbers is_graph is within long row before =
                     (known.taken edge in_graph (tail ∙ same) into part is_part);
               },
           λ high.
-              rw (here (true ∷ set)) ((row.exact set small upper).1 (record {
+              rw (here (true ∷ set)) ((row.exact set small candidate).1 (record {
                 left_out = rw (here set) at high.left_out;
                 taken = λ edge in_graph tail into part is_part.
                     rw (head edge in_graph (tail ∙ sym same) part, here (without set part)) at
@@ -332,7 +338,7 @@ IsExact-filled graph rows first none few filled = record {
     each = λ vertex within. (filled.each vertex (omega (arith, none)) within).0;
   };
   empty = empty;
-  exact = λ vertex set within room upper. filled.exact vertex set (omega (arith, none)) within room upper;
+  exact = λ vertex set within room candidate. filled.exact vertex set (omega (arith, none)) within room candidate;
 }
   where
     nothing : (z : ℤ) → pos 0 ≤ℤ z → z ≤ℤ pos 0 → z ≡ pos 0

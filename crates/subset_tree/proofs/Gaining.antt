@@ -67,9 +67,12 @@ gained-first graph rows vertex colour first past gains into within long clear = 
     near : AreGains gains
     near = record { not_below = λ place. (each place).0; not_above = λ place. (each place).1 }
 
-    exact : (set : List Bool) → colour + length set ≡ colour_count graph → (upper : ℤ)
-        → (number_in gains (place_of set) ≤ℤ upper) ↔ IsEnoughBefore graph rows vertex colour first set upper
-    exact set at upper = (λ is. record { lowest = rw there at is; each = no_edge }, λ enough. rw there enough.lowest)
+    exact : (set : List Bool) → colour + length set ≡ colour_count graph → (candidate : ℤ)
+        → (number_in gains (place_of set) ≤ℤ candidate) ↔ IsEnoughBefore graph rows vertex colour first set candidate
+    exact set at candidate = (
+      λ is. record { lowest = rw there at is; each = no_edge },
+      λ enough. rw there enough.lowest,
+    )
       where
         rest : (count colour size : ℕ) → colour + size ≡ count → size ≡ count - colour
         rest count colour size at = omega arith
@@ -81,7 +84,7 @@ gained-first graph rows vertex colour first past gains into within long clear = 
         there = clear (place_of set) here
 
         no_edge : (edge : ℕ) → edge < first → (edge_at graph edge).tail ≡ vertex → head_colour graph edge ≡ colour
-            → ((edge_at graph edge).weight +ℤ number_of graph rows (edge_at graph edge).head set) ≤ℤ upper
+            → ((edge_at graph edge).weight +ℤ number_of graph rows (edge_at graph edge).head set) ≤ℤ candidate
         no_edge edge before tail same =
             let smaller : head_colour graph edge < colour =
             (into.smaller edge (omega (arith, before, into.in_order, into.within))).0 before in
@@ -93,26 +96,29 @@ pub gained-other : (graph : Graph) (rows : List (List ℤ)) (vertex colour place
     → AreGainsBefore graph rows vertex colour place gains → AreGainsBefore graph rows vertex colour (place + 1) gains
 gained-other graph rows vertex colour place gains edge is other before = record { near = before.near; exact = exact }
   where
-    exact : (set : List Bool) → colour + length set ≡ colour_count graph → (upper : ℤ)
-        → (number_in gains (place_of set) ≤ℤ upper) ↔ IsEnoughBefore graph rows vertex colour (place + 1) set upper
-    exact set at upper = (to, from)
+    exact : (set : List Bool) → colour + length set ≡ colour_count graph → (candidate : ℤ)
+        → (number_in gains (place_of set) ≤ℤ candidate)
+        ↔ IsEnoughBefore graph rows vertex colour (place + 1) set candidate
+    exact set at candidate = (to, from)
       where
-        from : IsEnoughBefore graph rows vertex colour (place + 1) set upper → number_in gains (place_of set) ≤ℤ upper
-        from enough = (before.exact set at upper).1
+        from : IsEnoughBefore graph rows vertex colour (place + 1) set candidate
+            → number_in gains (place_of set) ≤ℤ candidate
+        from enough = (before.exact set at candidate).1
             (record { lowest = enough.lowest; each = λ e within. enough.each e (omega (arith, within)) })
 
-        to : number_in gains (place_of set) ≤ℤ upper → IsEnoughBefore graph rows vertex colour (place + 1) set upper
+        to : number_in gains (place_of set) ≤ℤ candidate
+            → IsEnoughBefore graph rows vertex colour (place + 1) set candidate
         to low = record { lowest = known.lowest; each = each }
           where
-            known : IsEnoughBefore graph rows vertex colour place set upper
-            known = (before.exact set at upper).0 low
+            known : IsEnoughBefore graph rows vertex colour place set candidate
+            known = (before.exact set at candidate).0 low
 
             each : (e : ℕ) → e < place + 1 → (edge_at graph e).tail ≡ vertex → head_colour graph e ≡ colour
-                → ((edge_at graph e).weight +ℤ number_of graph rows (edge_at graph e).head set) ≤ℤ upper
+                → ((edge_at graph e).weight +ℤ number_of graph rows (edge_at graph e).head set) ≤ℤ candidate
             each e within tail same = choose (cases_eq e place)
               where
                 choose : (e ≡ place) ⊎ (e ≡ place → ⊥)
-                    → ((edge_at graph e).weight +ℤ number_of graph rows (edge_at graph e).head set) ≤ℤ upper
+                    → ((edge_at graph e).weight +ℤ number_of graph rows (edge_at graph e).head set) ≤ℤ candidate
                 choose (inl here) = absurd
                     (other (ap (λ (x : Edge). x.tail) (is ∙ ap (edge_at graph) (sym here)) ∙ tail))
                 choose (inr apart) = known.each e (omega (arith, within, apart)) tail same
@@ -147,9 +153,10 @@ gained-more graph rows vertex colour place gains more numbers edge is tail_is in
     rest : (count colour size : ℕ) → colour + size ≡ count → size ≡ count - colour
     rest count colour size at = omega arith
 
-    exact : (set : List Bool) → colour + length set ≡ colour_count graph → (upper : ℤ)
-        → (number_in more (place_of set) ≤ℤ upper) ↔ IsEnoughBefore graph rows vertex colour (place + 1) set upper
-    exact set at upper = (to, from)
+    exact : (set : List Bool) → colour + length set ≡ colour_count graph → (candidate : ℤ)
+        → (number_in more (place_of set) ≤ℤ candidate)
+        ↔ IsEnoughBefore graph rows vertex colour (place + 1) set candidate
+    exact set at candidate = (to, from)
       where
         within : place_of set < length numbers
         within = rw (long, ← rest (colour_count graph) colour (length set) at) (place-lt set)
@@ -162,36 +169,38 @@ gained-more graph rows vertex colour place gains more numbers edge is tail_is in
         number_is = number_of-behind graph rows edge.head numbers set row_is (rw into at)
 
         Low : Edge → Type 0
-        Low e = (e.weight +ℤ number_of graph rows e.head set) ≤ℤ upper
+        Low e = (e.weight +ℤ number_of graph rows e.head set) ≤ℤ candidate
 
-        from : IsEnoughBefore graph rows vertex colour (place + 1) set upper → number_in more (place_of set) ≤ℤ upper
-        from enough = (step upper).1 (
-          (before.exact set at upper).1 (record {
+        from : IsEnoughBefore graph rows vertex colour (place + 1) set candidate
+            → number_in more (place_of set) ≤ℤ candidate
+        from enough = (step candidate).1 (
+          (before.exact set at candidate).1 (record {
             lowest = enough.lowest;
             each = λ e below. enough.each e (omega (arith, below));
           }),
           rw number_is at here,
         )
           where
-            here : (edge.weight +ℤ number_of graph rows edge.head set) ≤ℤ upper
+            here : (edge.weight +ℤ number_of graph rows edge.head set) ≤ℤ candidate
             here = subst Low (sym is) (enough.each place (omega arith) (ap (λ (e : Edge). e.tail) (sym is) ∙ tail_is)
                 (ap (λ (e : Edge). colour_of graph e.head) (sym is) ∙ into))
 
-        to : number_in more (place_of set) ≤ℤ upper → IsEnoughBefore graph rows vertex colour (place + 1) set upper
+        to : number_in more (place_of set) ≤ℤ candidate
+            → IsEnoughBefore graph rows vertex colour (place + 1) set candidate
         to low = record { lowest = known.lowest; each = each }
           where
-            known : IsEnoughBefore graph rows vertex colour place set upper
-            known = (before.exact set at upper).0 (((step upper).0 low).0)
+            known : IsEnoughBefore graph rows vertex colour place set candidate
+            known = (before.exact set at candidate).0 (((step candidate).0 low).0)
 
-            here : (edge.weight +ℤ number_of graph rows edge.head set) ≤ℤ upper
-            here = rw number_is (((step upper).0 low).1)
+            here : (edge.weight +ℤ number_of graph rows edge.head set) ≤ℤ candidate
+            here = rw number_is (((step candidate).0 low).1)
 
             each : (e : ℕ) → e < place + 1 → (edge_at graph e).tail ≡ vertex → head_colour graph e ≡ colour
-                → ((edge_at graph e).weight +ℤ number_of graph rows (edge_at graph e).head set) ≤ℤ upper
+                → ((edge_at graph e).weight +ℤ number_of graph rows (edge_at graph e).head set) ≤ℤ candidate
             each e below tail same = choose (cases_eq e place)
               where
                 choose : (e ≡ place) ⊎ (e ≡ place → ⊥)
-                    → ((edge_at graph e).weight +ℤ number_of graph rows (edge_at graph e).head set) ≤ℤ upper
+                    → ((edge_at graph e).weight +ℤ number_of graph rows (edge_at graph e).head set) ≤ℤ candidate
                 choose (inl equal) = subst Low (is ∙ ap (edge_at graph) (sym equal)) here
                 choose (inr apart) = known.each e (omega (arith, below, apart)) tail same
 
@@ -203,21 +212,21 @@ pub gained-all : (graph : Graph) (rows : List (List ℤ)) (vertex colour first p
 gained-all graph rows vertex colour first past place gains into low high before =
     record { near = before.near; exact = exact }
   where
-    exact : (set : List Bool) → colour + length set ≡ colour_count graph → (upper : ℤ)
-        → (number_in gains (place_of set) ≤ℤ upper)
-        ↔ IsEnoughBefore graph rows vertex colour (length graph.edges) set upper
-    exact set at upper = (to, from)
+    exact : (set : List Bool) → colour + length set ≡ colour_count graph → (candidate : ℤ)
+        → (number_in gains (place_of set) ≤ℤ candidate)
+        ↔ IsEnoughBefore graph rows vertex colour (length graph.edges) set candidate
+    exact set at candidate = (to, from)
       where
-        from : IsEnoughBefore graph rows vertex colour (length graph.edges) set upper
-            → number_in gains (place_of set) ≤ℤ upper
-        from enough = (before.exact set at upper).1
+        from : IsEnoughBefore graph rows vertex colour (length graph.edges) set candidate
+            → number_in gains (place_of set) ≤ℤ candidate
+        from enough = (before.exact set at candidate).1
             (record {
               lowest = enough.lowest;
               each = λ e within. enough.each e (omega (arith, within, high, into.within));
             })
 
-        to : number_in gains (place_of set) ≤ℤ upper
-            → IsEnoughBefore graph rows vertex colour (length graph.edges) set upper
+        to : number_in gains (place_of set) ≤ℤ candidate
+            → IsEnoughBefore graph rows vertex colour (length graph.edges) set candidate
         to is_low = record {
           lowest = known.lowest;
           each = λ e within tail same.
@@ -225,8 +234,8 @@ gained-all graph rows vertex colour first past place gains into low high before 
               known.each e (omega (arith, there, low)) tail same;
         }
           where
-            known : IsEnoughBefore graph rows vertex colour place set upper
-            known = (before.exact set at upper).0 is_low
+            known : IsEnoughBefore graph rows vertex colour place set candidate
+            known = (before.exact set at candidate).0 is_low
 
 pub fits-weight : (weight : ℤ) → IsScore weight → SFits w32 weight
 fits-weight weight is =

@@ -99,10 +99,10 @@ IsSpread-set numbers place beside moved room is long = record {
     one : number_in (slice_set numbers (2 * place + 1) beside) (1 + 2 * place) ≡ beside
     one = rw (same_place place) (number_in-same numbers (2 * place + 1) beside room)
 
-pub IsEnough-same : (numbers other gains : List ℤ) (set : List Bool) (upper : ℤ)
+pub IsEnough-same : (numbers other gains : List ℤ) (set : List Bool) (candidate : ℤ)
     → ((p : ℕ) → p ≤ place_of set → number_in numbers p ≡ number_in other p)
-    → IsEnough numbers gains set upper → IsEnough other gains set upper
-IsEnough-same numbers other gains set upper same enough = record {
+    → IsEnough numbers gains set candidate → IsEnough other gains set candidate
+IsEnough-same numbers other gains set candidate same enough = record {
   left_out = rw (← same (place_of set) (omega arith)) enough.left_out;
   taken = λ part is_part.
       let sum = place-without set part is_part in
@@ -130,20 +130,22 @@ kept-spread numbers old spread place size beside is here before p low within = c
 pub grown-spread : (numbers old gains spread : List ℤ) (place size : ℕ) (beside : ℤ)
     → IsSpread numbers spread place beside
     → ((p : ℕ) → p < place + 1 → number_in numbers p ≡ number_in old p)
-    → ((set : List Bool) → place_of set ≡ place → (upper : ℤ) → (beside ≤ℤ upper) ↔ IsEnough numbers gains set upper)
-    → ((set : List Bool) → place + 1 ≤ place_of set → place_of set < size → (upper : ℤ)
-    → (number_in numbers (1 + 2 * place_of set) ≤ℤ upper) ↔ IsEnough old gains set upper)
-    → (set : List Bool) → place ≤ place_of set → place_of set < size → (upper : ℤ)
-    → (number_in spread (1 + 2 * place_of set) ≤ℤ upper) ↔ IsEnough old gains set upper
-grown-spread numbers old gains spread place size beside is same_below here before set low within upper =
+    → ((set : List Bool) → place_of set ≡ place → (candidate : ℤ) → (beside ≤ℤ candidate)
+    ↔ IsEnough numbers gains set candidate)
+    → ((set : List Bool) → place + 1 ≤ place_of set → place_of set < size → (candidate : ℤ)
+    → (number_in numbers (1 + 2 * place_of set) ≤ℤ candidate) ↔ IsEnough old gains set candidate)
+    → (set : List Bool) → place ≤ place_of set → place_of set < size → (candidate : ℤ)
+    → (number_in spread (1 + 2 * place_of set) ≤ℤ candidate) ↔ IsEnough old gains set candidate
+grown-spread numbers old gains spread place size beside is same_below here before set low within candidate =
     choose (cases_eq (place_of set) place)
   where
     choose : (place_of set ≡ place) ⊎ (place_of set ≡ place → ⊥)
-        → (number_in spread (1 + 2 * place_of set) ≤ℤ upper) ↔ IsEnough old gains set upper
+        → (number_in spread (1 + 2 * place_of set) ≤ℤ candidate) ↔ IsEnough old gains set candidate
     choose (inl same) = (
-      λ is_low. IsEnough-same numbers old gains set upper same_here ((here set same upper).0 (rw there at is_low)),
-      λ enough. rw there ((here set same upper).1
-          (IsEnough-same old numbers gains set upper (λ p within'. sym (same_here p within')) enough)),
+      λ is_low.
+          IsEnough-same numbers old gains set candidate same_here ((here set same candidate).0 (rw there at is_low)),
+      λ enough. rw there ((here set same candidate).1
+          (IsEnough-same old numbers gains set candidate (λ p within'. sym (same_here p within')) enough)),
     )
       where
         same_here : (p : ℕ) → p ≤ place_of set → number_in numbers p ≡ number_in old p
@@ -153,7 +155,8 @@ grown-spread numbers old gains spread place size beside is same_below here befor
         there = rw same is.beside_it
     choose (inr apart) =
         let more : place + 1 ≤ place_of set = omega (arith, low, apart) in
-        rw (is.others (1 + 2 * place_of set) (omega (arith, more)) (omega (arith, more))) (before set more within upper)
+        rw (is.others (1 + 2 * place_of set) (omega (arith, more)) (omega (arith, more)))
+        (before set more within candidate)
 
 pub modest-spread : (numbers spread : List ℤ) (place : ℕ) (beside : ℤ) → IsSpread numbers spread place beside
     → AreModest numbers

@@ -8,4 +8,5 @@ pub record IsExact (graph : Graph) (rows : List (List ℤ)) : Type 0 where
   pub empty : (vertex : ℕ) → vertex < length graph.colours → number_of graph rows vertex [] ≡ pos 0
   pub exact : (vertex : ℕ) (set : List Bool) → vertex < length graph.colours
       → colour_of graph vertex + length set < colour_count graph
-      → (upper : ℤ) → (number_of graph rows vertex (true ∷ set) ≤ℤ upper) ↔ IsHighEnough graph rows vertex set upper
+      → (candidate : ℤ) → (number_of graph rows vertex (true ∷ set) ≤ℤ candidate)
+      ↔ IsHighEnough graph rows vertex set candidate

@@ -13,8 +13,8 @@ invariant-loop-set l = record {
   below : (place : ℕ) → place < l.set → number_in l.numbers place ≡ number_in l.initial.numbers place;
   kept : (place : ℕ) → l.set ≤ place → place < length l.gains
       → number_in l.numbers (2 * place) ≡ number_in l.initial.numbers place;
-  grown : (set : List Bool) → l.set ≤ place_of set → place_of set < length l.gains → (upper : ℤ)
-      → (number_in l.numbers (1 + 2 * place_of set) ≤ℤ upper) ↔ IsEnough l.initial.numbers l.gains set upper;
+  grown : (set : List Bool) → l.set ≤ place_of set → place_of set < length l.gains → (candidate : ℤ)
+      → (number_in l.numbers (1 + 2 * place_of set) ≤ℤ candidate) ↔ IsEnough l.initial.numbers l.gains set candidate;
 }
 
 abbrev pub decreases-loop-set : goal.decreases-loop-set
