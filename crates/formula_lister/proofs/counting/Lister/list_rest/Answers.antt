@@ -2,7 +2,7 @@ use Rattle.std.proofs.Common.{◌∷◌, [], List, ℕ, arith, slice_set, ap, �
 use Rattle.std.proofs.lemmas.Result.{on_ok_weaker}
 use Rattle.formula_lister.specs.inside.Counting.{Completes, IsOne}
 use Rattle.formula_lister.proofs.Gaining.{Gains-as, Overfills-as}
-use Rattle.formula_lister.proofs.Pairs.{atoms_beside, Gains-unfit, IsOnly, IsOnly-fit}
+use Rattle.formula_lister.proofs.Pairs.{atoms_beside, Gains-unfit, IsOnly-fit}
 use Rattle.formula_lister.proofs.counting.Lister.list_rest.Goals as goal
 
 pub returns-then-rest-self-clause-gains : goal.returns-then-rest-self-clause-gains
