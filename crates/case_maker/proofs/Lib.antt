@@ -1,0 +1,4 @@
+mod States
+mod Appended
+mod Length
+pub mod Examples
