@@ -40,22 +40,43 @@ pub(crate) fn first_low_of(
     let greater = graph.colour_count() as usize - usize::from(graph.colour_of(vertex));
     let mut first = None;
     for size in 0..greater {
-        let sets = sets_of(size);
-        let found = first_low_of_size(
-            graph,
-            rows,
-            vertex,
-            size,
-            &mut own[..sets],
-            &mut gains[..sets],
-        );
+        let found = first_low_within(graph, rows, vertex, size, own, gains);
         first = earlier(first, found);
     }
     first
 }
 
 /// The first number of a vertex that is too low, among those for a colour and sets of the colours behind it, of which
-/// there are so many.
+/// there are so many. Of both buffers the first numbers are written over.
+fn first_low_within(
+    graph: &ColourGraph,
+    rows: &[Vec<i64>],
+    vertex: VertexId,
+    size: usize,
+    own: &mut [i64],
+    gains: &mut [i64],
+) -> Option<Low>
+    requires fits { FitsGraph graph.now (map (λ row. row.items) rows.now) }
+    requires numbers { AreNumbers (map (λ row. row.items) rows.now) }
+    requires vertex { vertex < length graph.now.colours }
+    requires size { colour_of graph.now vertex + size < colour_count graph.now }
+    requires room { (2 ^ size ≤ length own.old) × (2 ^ size ≤ length gains.old) }
+    ensures own { length own.new ≡ length own.old }
+    ensures gains { length gains.new ≡ length gains.old }
+    ensures found { IsFoundOfSizes graph.now (map (λ row. row.items) rows.now) vertex size (size + 1) result }
+{
+    let sets = sets_of(size);
+    first_low_of_size(
+        graph,
+        rows,
+        vertex,
+        size,
+        &mut own[..sets],
+        &mut gains[..sets],
+    )
+}
+
+/// The same, over two buffers of a number for each of the sets.
 fn first_low_of_size(
     graph: &ColourGraph,
     rows: &[Vec<i64>],

@@ -1,6 +1,5 @@
-use Rattle.std.proofs.Common.{◌≡◌, ◌∙◌, ◌+◌, ◌-◌, ℤ, pos, List, length-append, length-drop, length-take, map, ap, refl}
+use Rattle.std.proofs.Common.{◌≡◌, ◌∙◌, ◌+◌, ◌-◌, pos, List, ℤ, map, ap, refl}
 use Rattle.std.proofs.Common.{arith, w64}
-use Rattle.std.proofs.lemmas.Grind.{common_steps}
 use Rattle.std.proofs.lemmas.Int.{to_z-of_z}
 use Rattle.colour_graph.specs.Graph.{colour_count, colour_of}
 use Rattle.tree_certificate.specs.TableHolds.{number_at, row_at}
@@ -12,87 +11,21 @@ use Rattle.certificate_checker.proofs.Fits.{SFits-number, not_less-as}
 use Rattle.certificate_checker.proofs.TableNumbers.{numbers-row, row-some}
 use Rattle.certificate_checker.proofs.vertex.first_low_of.Goals as goal
 
-pub slice_bounds-first_low_of_size-end : goal.slice_bounds-first_low_of_size-end
-slice_bounds-first_low_of_size-end c =
-    omega (
-      arith,
-      length-take {A = ℤ},
-      c.loop-size.invariant.own,
-      c.loop-size.invariant.gains,
-      powers-rise c.loop-size.size (colour_count c.args.graph.now)
-          (omega (arith, c.colour_count.ensures, c.colour_of.ensures.colour, c.from-2.ensures)),
-      c.sets_of-sets.ensures.sets,
-    )
-
-pub slice_bounds-first_low_of_size-end-in-loop-size : goal.slice_bounds-first_low_of_size-end-in-loop-size
-slice_bounds-first_low_of_size-end-in-loop-size c =
-    omega (
-      arith,
-      length-take {A = ℤ},
-      c.loop-size.invariant.own,
-      c.loop-size.invariant.gains,
-      powers-rise c.loop-size.size (colour_count c.args.graph.now)
-          (omega (arith, c.colour_count.ensures, c.colour_of.ensures.colour, c.from-2.ensures)),
-      c.sets_of-sets.ensures.sets,
-    )
-
-pub slice_bounds-first_low_of_size-end-in-loop-size-2 : goal.slice_bounds-first_low_of_size-end-in-loop-size-2
-slice_bounds-first_low_of_size-end-in-loop-size-2 c =
-    omega (
-      arith,
-      length-take {A = ℤ},
-      c.loop-size.invariant.own,
-      c.loop-size.invariant.gains,
-      powers-rise c.loop-size.size (colour_count c.args.graph.now)
-          (omega (arith, c.colour_count.ensures, c.colour_of.ensures.colour, c.from-2.ensures)),
-      c.sets_of-sets.ensures.sets,
-    )
-
-pub slice_bounds-first_low_of_size-end-in-loop-size-3 : goal.slice_bounds-first_low_of_size-end-in-loop-size-3
-slice_bounds-first_low_of_size-end-in-loop-size-3 c =
-    omega (
-      arith,
-      length-take {A = ℤ},
-      c.loop-size.invariant.own,
-      c.loop-size.invariant.gains,
-      powers-rise c.loop-size.size (colour_count c.args.graph.now)
-          (omega (arith, c.colour_count.ensures, c.colour_of.ensures.colour, c.from-2.ensures)),
-      c.sets_of-sets.ensures.sets,
-    )
-
-pub first_low_of_size-found-requires-clause-own : goal.first_low_of_size-found-requires-clause-own
-first_low_of_size-found-requires-clause-own c =
-    omega (
-      arith,
-      length-take {A = ℤ},
-      c.loop-size.invariant.own,
-      c.loop-size.invariant.gains,
-      powers-rise c.loop-size.size (colour_count c.args.graph.now)
-          (omega (arith, c.colour_count.ensures, c.colour_of.ensures.colour, c.from-2.ensures)),
-      c.sets_of-sets.ensures.sets,
-    )
-
-pub first_low_of_size-found-requires-clause-gains : goal.first_low_of_size-found-requires-clause-gains
-first_low_of_size-found-requires-clause-gains c =
-    omega (
-      arith,
-      length-take {A = ℤ},
-      c.loop-size.invariant.own,
-      c.loop-size.invariant.gains,
-      powers-rise c.loop-size.size (colour_count c.args.graph.now)
-          (omega (arith, c.colour_count.ensures, c.colour_of.ensures.colour, c.from-2.ensures)),
-      c.sets_of-sets.ensures.sets,
-    )
+pub first_low_within-found-requires-clause-room : goal.first_low_within-found-requires-clause-room
+first_low_within-found-requires-clause-room c =
+    let room = powers-rise c.loop-size.size (colour_count c.args.graph.now)
+    (omega (arith, c.colour_count.ensures, c.colour_of.ensures.colour, c.from-2.ensures)) in
+    (omega (arith, c.loop-size.invariant.own, room), omega (arith, c.loop-size.invariant.gains, room))
 
 pub loop-size-preserved : goal.loop-size-preserved
 loop-size-preserved c =
     let known = c.loop-size.invariant in
     record {
-      own = first_of (grind (arith, common_steps), omega (arith, length-append {A = ℤ}, length-drop {A = ℤ}));
-      gains = first_of (grind (arith, common_steps), omega (arith, length-append {A = ℤ}, length-drop {A = ℤ}));
+      own = c.first_low_within-found.ensures.own ∙ known.own;
+      gains = c.first_low_within-found.ensures.gains ∙ known.gains;
       found = found_earlier c.args.graph.now (map (λ row. row.items) c.args.rows.now) c.args.vertex c.loop-size.size
-          (c.loop-size.size + 1) (omega arith) c.loop-size.first c.first_low_of_size-found.result c.earlier-first.result
-          known.found c.first_low_of_size-found.ensures.found c.earlier-first.ensures;
+          (c.loop-size.size + 1) (omega arith) c.loop-size.first c.first_low_within-found.result c.earlier-first.result
+          known.found c.first_low_within-found.ensures.found c.earlier-first.ensures;
     }
 
 pub returns-clause-found : goal.returns-clause-found
