@@ -1,9 +1,9 @@
 //! Which edges could be added to a tree with gain.
-ghost use Rattle.std.specs.Prelude.{◌≡◌, ◌≤◌, ◌<◌, ◌↔◌, ◌<ℤ◌, pos, false, true, IsTrue, MatchOption, length, replicate};
+ghost use Rattle.std.specs.Prelude.{◌≡◌, ◌≤◌, ◌<◌, ◌↔◌, ◌<ℤ◌, ℕ, List, pos, false, true, IsTrue, MatchOption, length, replicate};
 ghost use Rattle.std.specs.List.{All};
 ghost use Rattle.colour_graph.specs.Graph.{greatest_graph};
 ghost use Rattle.colour_graph.specs.Maximal.{IsMaximal};
-ghost use Rattle.entry_checker.specs.EntryPlaces.{IsAddedPlace};
+ghost use Rattle.entry_checker.specs.EntryPlaces.{CanBeAdded, IsAddedPlace};
 ghost use Rattle.entry_checker.specs.inside.Marks.{AreMarks, is_marked};
 
 use colour_graph::{Colour, ColourGraph, Edge, EdgeId, GREATEST_GRAPH};
@@ -18,8 +18,7 @@ pub(crate) fn first_added(graph: &ColourGraph, edges: &[EdgeId]) -> Option<EdgeI
     let mut taken = [false; GREATEST_GRAPH as usize];
     mark_heads(graph, edges, &mut reached, &mut taken);
     for edge in 0..graph.edge_count() {
-        let here = graph.edge_at(edge);
-        if adds(here, graph.colour_of(here.head), &reached, &taken) {
+        if can_be_added(graph, edge, &reached, &taken) {
             return Some(edge);
         }
     }
@@ -43,6 +42,19 @@ fn mark_heads(graph: &ColourGraph, edges: &[EdgeId], reached: &mut [bool], taken
         reached[usize::from(head)] = true;
         taken[usize::from(graph.colour_of(head))] = true;
     }
+}
+
+/// Whether an edge gains where these vertices are reached and these colours are taken.
+fn can_be_added(graph: &ColourGraph, edge: EdgeId, reached: &[bool], taken: &[bool]) -> bool
+    requires edge { edge < length graph.now.edges }
+    requires vertices { length graph.now.colours ≤ length reached.now }
+    requires colours { length graph.now.colours ≤ length taken.now }
+    ensures { (edges : List ℕ) → AreMarks graph.now edges reached.now taken.now
+        → IsTrue result ↔ CanBeAdded graph.now edges edge }
+{
+    graph.is_graph();
+    let edge = graph.edge_at(edge);
+    adds(edge, graph.colour_of(edge.head), reached, taken)
 }
 
 /// Whether an edge to a colour gains where these vertices are reached and these colours are taken.
