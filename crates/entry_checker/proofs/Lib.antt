@@ -1,4 +1,5 @@
 mod IsColourful
+mod ColourCount
 mod AreMarks
 mod AreFirsts
 mod Gathering

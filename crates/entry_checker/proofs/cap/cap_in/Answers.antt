@@ -1,7 +1,7 @@
-use Rattle.std.proofs.Common.{◌≡◌, ◌∙◌, ◌<◌, ◌-◌, arith, length, to_z, w32, w64}
+use Rattle.std.proofs.Common.{◌≡◌, ◌∙◌, ◌<◌, arith, to_z, w32, w64}
 use Rattle.std.proofs.lemmas.Int.{to_z-of_z}
 use Rattle.colour_graph.specs.Graph.{colour_count}
-use Rattle.colour_graph.proofs.Order.{colour-le_vertex}
+use Rattle.entry_checker.proofs.ColourCount.{fewer_colours}
 use Rattle.colour_graph.proofs.Scores.{IsNear-more, added}
 use Rattle.certificate_checker.proofs.CapOf.{cap-more}
 use Rattle.certificate_checker.proofs.Fits.{SFits-score}
@@ -9,23 +9,18 @@ use Rattle.entry_checker.proofs.cap.cap_in.Goals as goal
 
 pub overflow_cast-before : goal.overflow_cast-before
 overflow_cast-before c =
-    let colours = c.is_graph.ensures.colours in
-    let low = colour-le_vertex c.args.graph.now colours (length c.args.graph.now.colours - 1)
-    (omega (arith, colours.some)) in
+    let low = fewer_colours c.args.graph.now c.is_graph.ensures.colours in
     omega (arith, low, c.colour_count-before-end.ensures, c.requires.vertices)
 
 pub overflow_add-before : goal.overflow_add-before
 overflow_add-before c =
-    let colours = c.is_graph.ensures.colours in
-    let low = colour-le_vertex c.args.graph.now colours (length c.args.graph.now.colours - 1)
-    (omega (arith, colours.some)) in
+    let low = fewer_colours c.args.graph.now c.is_graph.ensures.colours in
     omega (arith, low, c.colour_count-before-end.ensures, c.requires.vertices)
 
 pub loop-before-preserved : goal.loop-before-preserved
 loop-before-preserved c =
     let graph = c.args.graph.now in
-    let colours = c.is_graph.ensures.colours in
-    let low = colour-le_vertex graph colours (length graph.colours - 1) (omega (arith, colours.some)) in
+    let low = fewer_colours graph c.is_graph.ensures.colours in
     let few : c.loop-before.before < 100000 =
     omega (arith, low, c.colour_count-before-end.ensures, c.requires.vertices) in
     let most = c.greatest_into.result in
