@@ -1,2 +1,6 @@
+mod Ascii
+mod Examples
 mod Fields
+mod JsonObjects
+mod JsonTexts
 mod Numbered

@@ -1,2 +1,4 @@
 pub mod Report
 pub mod ListReport
+pub mod JsonReport
+pub mod inside
