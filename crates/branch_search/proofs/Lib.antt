@@ -1,0 +1,15 @@
+pub mod Smaller
+pub mod Standing
+pub mod Pushing
+pub mod TreeSteps
+pub mod Worth
+pub mod NodeValues
+pub mod Sides
+pub mod GrowSteps
+pub mod LeafSteps
+pub mod Halves
+pub mod Betters
+pub mod Enough
+pub mod Depth
+pub mod FewEdges
+pub mod Ending

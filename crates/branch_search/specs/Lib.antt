@@ -1,0 +1,4 @@
+pub mod Limits
+pub mod Pricing
+pub mod Room
+pub mod inside
